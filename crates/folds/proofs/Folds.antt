@@ -1,0 +1,174 @@
+-- Laws of the sums, maxima, counts and tests: none, one more, equal parts, larger parts, a bound, a prefix.
+-- Assumes nothing.
+use Prim.Native.Nat.{ℕ, zero, suc, _+_, _-_, _*_, _≤_, _<_, zero-le, max}
+use mathlib.Core.Bool.{Bool, true, false, _||_}
+use mathlib.Core.Logic.{⊎-elim}
+use mathlib.Core.Path.{_≡_, refl, sym, ap, ap₂}
+use native.Mathlib.Nat.{eq-or-lt-of-le, le-of-suc-le-suc, not-suc-le-zero, suc-mul, add-mul, zero-mul, mul-one, add-zero, add-suc, add-assoc}
+use native.Mathlib.Numerals.{add-one}
+use native.Mathlib.Omega.{arith}
+use Rattle.folds.specs.Folds.{when, sumTo, sumWhere, maxTo, countTo, anyTo}
+use Rattle.folds.proofs.Numbers.{below-suc, when-mono, when-bound}
+
+-- ---- `sumTo`
+
+pub sumTo-none : (f : ℕ → ℕ) → sumTo f 0 ≡ 0
+unfolding sumTo
+sumTo-none f = refl
+
+pub sumTo-next : (f : ℕ → ℕ) (n : ℕ) → sumTo f (n + 1) ≡ sumTo f n + f n
+unfolding sumTo
+sumTo-next f n = rw add-one
+
+pub sumTo-cong : (f g : ℕ → ℕ) (n : ℕ) → ((k : ℕ) → k < n → f k ≡ g k) → sumTo f n ≡ sumTo g n
+unfolding sumTo
+sumTo-cong f g zero all = refl
+sumTo-cong f g (suc n) all = ap₂ _+_ (sumTo-cong f g n (λ k h. all k (omega arith))) (all n (omega arith))
+
+pub sumTo-mono : (f g : ℕ → ℕ) (n : ℕ) → ((k : ℕ) → k < n → f k ≤ g k) → sumTo f n ≤ sumTo g n
+unfolding sumTo
+sumTo-mono f g zero all = zero-le
+sumTo-mono f g (suc n) all = omega (arith, sumTo-mono f g n (λ k h. all k (omega arith)), all n (omega arith))
+
+pub sumTo-bound : (f : ℕ → ℕ) (n m : ℕ) → ((k : ℕ) → k < n → f k ≤ m) → sumTo f n ≤ n * m
+unfolding sumTo
+sumTo-bound f zero m all = zero-le
+sumTo-bound f (suc n) m all = rw (suc-mul n m) (omega (arith, sumTo-bound f n m (λ k h. all k (omega arith)), all n (omega arith)))
+
+pub sumTo-prefix : (f : ℕ → ℕ) (k n : ℕ) → k ≤ n → sumTo f k ≤ sumTo f n
+unfolding sumTo
+sumTo-prefix f k zero h = let e : k ≡ 0 = omega arith in rw e zero-le
+sumTo-prefix f k (suc n) h =
+    ⊎-elim (λ e. rw e (omega arith)) (λ l. omega (arith, sumTo-prefix f k n (le-of-suc-le-suc l))) (eq-or-lt-of-le h)
+
+-- a part of a sum, and the next of its terms
+pub sumTo-below : (f : ℕ → ℕ) (k n : ℕ) → k < n → sumTo f k + f k ≤ sumTo f n
+sumTo-below f k n l = omega (arith, sumTo-next f k, sumTo-prefix f (k + 1) n (omega arith))
+
+pub sumTo-split : (f : ℕ → ℕ) (a c : ℕ) → sumTo f (a + c) ≡ sumTo f a + sumTo (λ k. f (a + k)) c
+unfolding sumTo
+sumTo-split f a zero = omega (arith, ap (sumTo f) (add-zero a))
+sumTo-split f a (suc c) = rw (add-suc, sumTo-split f a c) (add-assoc (sumTo f a) (sumTo (λ k. f (a + k)) c) (f (a + c)))
+
+-- the first term apart
+pub sumTo-first : (f : ℕ → ℕ) (n : ℕ) → sumTo f (suc n) ≡ f 0 + sumTo (λ k. f (suc k)) n
+unfolding sumTo
+sumTo-first f zero = omega arith
+sumTo-first f (suc n) = omega (arith, sumTo-first f n)
+
+pub sumTo-add : (f g : ℕ → ℕ) (n : ℕ) → sumTo (λ k. f k + g k) n ≡ sumTo f n + sumTo g n
+unfolding sumTo
+sumTo-add f g zero = refl
+sumTo-add f g (suc n) = omega (arith, sumTo-add f g n)
+
+pub sumTo-scale : (f : ℕ → ℕ) (m n : ℕ) → sumTo (λ k. f k * m) n ≡ sumTo f n * m
+unfolding sumTo
+sumTo-scale f m zero = sym (zero-mul m)
+sumTo-scale f m (suc n) = rw (add-mul, sumTo-scale f m n)
+
+pub sumTo-zero : (f : ℕ → ℕ) (n : ℕ) → ((k : ℕ) → k < n → f k ≡ 0) → sumTo f n ≡ 0
+unfolding sumTo
+sumTo-zero f zero all = refl
+sumTo-zero f (suc n) all = omega (arith, sumTo-zero f n (λ k h. all k (omega arith)), all n (omega arith))
+
+-- parts that are no less and sum to no more are equal
+pub sumTo-tight : (f g : ℕ → ℕ) (n : ℕ) → ((k : ℕ) → k < n → f k ≤ g k) → sumTo g n ≤ sumTo f n → (k : ℕ) → k < n → f k ≡ g k
+unfolding sumTo
+sumTo-tight f g zero all le k l = absurd (not-suc-le-zero l)
+sumTo-tight f g (suc n) all le k l =
+    below-suc (λ j. f j ≡ g j) n
+    (sumTo-tight f g n (λ j h. all j (omega arith)) (omega (arith, all n (omega arith))))
+    (omega (arith, all n (omega arith), sumTo-mono f g n (λ j h. all j (omega arith))))
+    k l
+
+-- ---- `sumWhere`
+
+pub sumWhere-mono : (test : ℕ → Bool) (f g : ℕ → ℕ) (n : ℕ) → ((k : ℕ) → k < n → f k ≤ g k) → sumWhere test f n ≤ sumWhere test g n
+sumWhere-mono test f g n all = sumTo-mono _ _ n (λ k h. when-mono (test k) (all k h))
+
+pub sumWhere-bound : (test : ℕ → Bool) (f : ℕ → ℕ) (n m : ℕ) → ((k : ℕ) → k < n → f k ≤ m) → sumWhere test f n ≤ n * m
+sumWhere-bound test f n m all = sumTo-bound _ n m (λ k h. when-bound (test k) (all k h))
+
+-- what passes lies in the run of n' from m on, and all of it passes
+pub sumWhere-run : (test : ℕ → Bool) (f : ℕ → ℕ) (m n' n : ℕ) → m + n' ≤ n
+    → ((k : ℕ) → k < m → test k ≡ false) → ((k : ℕ) → m ≤ k → k < m + n' → test k ≡ true) → ((k : ℕ) → m + n' ≤ k → k < n → test k ≡ false)
+    → sumWhere test f n ≡ sumTo (λ k. f (m + k)) n'
+sumWhere-run test f m n' n fits before run after =
+    let g : ℕ → ℕ = λ k. when (test k) (f k) in
+    let whole : m + n' + (n - (m + n')) ≡ n = omega arith in
+    let none-before : sumTo g m ≡ 0 = sumTo-zero g m (λ k h. ap (λ t. when t (f k)) (before k h)) in
+    let none-after : sumTo (λ k. g (m + n' + k)) (n - (m + n')) ≡ 0 =
+    sumTo-zero (λ k. g (m + n' + k)) (n - (m + n')) (λ k h. ap (λ t. when t (f (m + n' + k))) (after (m + n' + k) (omega arith) (omega arith))) in
+    let inside : sumTo (λ k. g (m + k)) n' ≡ sumTo (λ k. f (m + k)) n' =
+    sumTo-cong (λ k. g (m + k)) (λ k. f (m + k)) n' (λ k h. ap (λ t. when t (f (m + k))) (run (m + k) (omega arith) (omega arith))) in
+    omega (arith, ap (sumTo g) whole, sumTo-split g (m + n') (n - (m + n')), sumTo-split g m n', none-before, none-after, inside)
+
+-- ---- `maxTo`
+
+pub maxTo-none : (f : ℕ → ℕ) → maxTo f 0 ≡ 0
+unfolding maxTo
+maxTo-none f = refl
+
+pub maxTo-next : (f : ℕ → ℕ) (n : ℕ) → maxTo f (n + 1) ≡ max (maxTo f n) (f n)
+unfolding maxTo
+maxTo-next f n = rw add-one
+
+pub maxTo-cong : (f g : ℕ → ℕ) (n : ℕ) → ((k : ℕ) → k < n → f k ≡ g k) → maxTo f n ≡ maxTo g n
+unfolding maxTo
+maxTo-cong f g zero all = refl
+maxTo-cong f g (suc n) all = ap₂ max (maxTo-cong f g n (λ k h. all k (omega arith))) (all n (omega arith))
+
+pub maxTo-mono : (f g : ℕ → ℕ) (n : ℕ) → ((k : ℕ) → k < n → f k ≤ g k) → maxTo f n ≤ maxTo g n
+unfolding maxTo
+maxTo-mono f g zero all = zero-le
+maxTo-mono f g (suc n) all = omega (arith, maxTo-mono f g n (λ k h. all k (omega arith)), all n (omega arith))
+
+pub maxTo-bound : (f : ℕ → ℕ) (n m : ℕ) → ((k : ℕ) → k < n → f k ≤ m) → maxTo f n ≤ m
+unfolding maxTo
+maxTo-bound f zero m all = zero-le
+maxTo-bound f (suc n) m all = omega (arith, maxTo-bound f n m (λ k h. all k (omega arith)), all n (omega arith))
+
+-- ---- `countTo`
+
+pub countTo-none : (test : ℕ → Bool) → countTo test 0 ≡ 0
+unfolding countTo
+countTo-none test = sumTo-none (λ k. when (test k) 1)
+
+pub countTo-next : (test : ℕ → Bool) (n : ℕ) → countTo test (n + 1) ≡ countTo test n + when (test n) 1
+unfolding countTo
+countTo-next test n = sumTo-next (λ k. when (test k) 1) n
+
+pub countTo-cong : (test test' : ℕ → Bool) (n : ℕ) → ((k : ℕ) → k < n → test k ≡ test' k) → countTo test n ≡ countTo test' n
+unfolding countTo
+countTo-cong test test' n all = sumTo-cong _ _ n (λ k h. ap (λ t. when t 1) (all k h))
+
+pub countTo-bound : (test : ℕ → Bool) (n : ℕ) → countTo test n ≤ n
+unfolding countTo
+countTo-bound test n = omega (arith, mul-one n, sumTo-bound (λ k. when (test k) 1) n 1 (λ k h. when-bound (test k) (omega arith)))
+
+pub countTo-split : (p : ℕ → Bool) (n m : ℕ) → countTo p (n + m) ≡ countTo p n + countTo (λ k. p (n + k)) m
+unfolding countTo
+countTo-split p n m = sumTo-split (λ k. when (p k) 1) n m
+
+-- a count over pairs of indices
+pub countTo-pairs : (test : ℕ → Bool) (n : ℕ) → countTo test (2 * n) ≡ countTo (λ p. test (2 * p)) n + countTo (λ p. test (suc (2 * p))) n
+unfolding countTo sumTo
+countTo-pairs test zero = refl
+countTo-pairs test (suc n) =
+    let twice : 2 * suc n ≡ suc (suc (2 * n)) = omega arith in
+    omega (arith, ap (sumTo (λ k. when (test k) 1)) twice, countTo-pairs test n)
+
+-- ---- `anyTo`
+
+pub anyTo-none : (test : ℕ → Bool) → anyTo test 0 ≡ false
+unfolding anyTo
+anyTo-none test = refl
+
+pub anyTo-next : (test : ℕ → Bool) (n : ℕ) → anyTo test (n + 1) ≡ (anyTo test n || test n)
+unfolding anyTo
+anyTo-next test n = rw add-one
+
+pub anyTo-cong : (test test' : ℕ → Bool) (n : ℕ) → ((k : ℕ) → k < n → test k ≡ test' k) → anyTo test n ≡ anyTo test' n
+unfolding anyTo
+anyTo-cong test test' zero all = refl
+anyTo-cong test test' (suc n) all = ap₂ _||_ (anyTo-cong test test' n (λ k h. all k (omega arith))) (all n (omega arith))

@@ -1,0 +1,6 @@
+-- The laws of the definitions in specs/, stated once over any function.
+pub mod Numbers
+pub mod Folds
+pub mod Searches
+pub mod Lists
+pub mod Loops

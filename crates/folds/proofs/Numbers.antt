@@ -1,0 +1,65 @@
+-- Laws of numbers, of division rounded up, and of what counts only where a test holds.
+-- Assumes nothing.
+use Prim.Native.Nat.{ℕ, zero, suc, _+_, _-_, _*_, _/_, _≤_, _<_, zero-le}
+use mathlib.Core.Bool.{Bool, true, false, _&&_}
+use mathlib.Core.Logic.{_⊎_, inl, inr, ⊎-elim}
+use mathlib.Core.Path.{_≡_, refl, sym, subst, _∙_}
+use native.Mathlib.Decide.{decLe, ℕ-discrete}
+use native.Mathlib.Nat.{le-refl, le-trans, le-of-suc-le-suc, eq-or-lt-of-le, lt-of-not-le, suc-mul, mul-suc, zero-lt-suc, div-zero, div-mul-le-self, le-div-iff-mul-le, div-lt-iff-lt-mul}
+use native.Mathlib.Omega.{arith}
+use lib.Dec.{eqb}
+use borrow.Author.Tests.{eq-eqb, ne-eqb}
+use Rattle.folds.specs.Folds.{ceilDiv, when}
+
+pub le-or-lt : (a b : ℕ) → (a ≤ b) ⊎ (b < a)
+le-or-lt a b = elim (decLe a b) [ yes h ↦ inl h | no h ↦ inr (lt-of-not-le h) ]
+
+-- what holds below n and at n holds below n + 1
+pub below-suc : (P : ℕ → Type 0) (n : ℕ) → ((k : ℕ) → k < n → P k) → P n → (k : ℕ) → k < suc n → P k
+below-suc P n all here k l = ⊎-elim (λ e. subst P (sym e) here) (λ lt. all k lt) (eq-or-lt-of-le (le-of-suc-le-suc l))
+
+-- two tests for equality that hold together
+pub eqb-iff : (a b c d : ℕ) → (a ≡ b → c ≡ d) → (c ≡ d → a ≡ b) → eqb a b ≡ eqb c d
+eqb-iff a b c d to from = go (ℕ-discrete a b)
+  where
+    go : Dec (a ≡ b) → eqb a b ≡ eqb c d
+    go (yes e) = eq-eqb a b e ∙ sym (eq-eqb c d (to e))
+    go (no n) = ne-eqb a b n ∙ sym (ne-eqb c d (λ e. n (from e)))
+
+pub div-mono : (k a b : ℕ) → a ≤ b → a / k ≤ b / k
+div-mono zero a b h = omega (arith, div-zero a, div-zero b)
+div-mono (suc k) a b h = le-div-iff-mul-le (zero-lt-suc k) .1 (le-trans (div-mul-le-self a (suc k)) h)
+
+-- ---- Laws of `ceilDiv`: ceil(a/b) is the least k with a ≤ k × b
+
+pub ceilDiv-mono : (b a a' : ℕ) → a ≤ a' → ceilDiv a b ≤ ceilDiv a' b
+unfolding ceilDiv
+ceilDiv-mono b a a' h = div-mono b (a + (b - 1)) (a' + (b - 1)) (omega arith)
+
+pub ceilDiv-least : {a k b : ℕ} → 0 < b → a ≤ k * b → ceilDiv a b ≤ k
+unfolding ceilDiv
+ceilDiv-least {a} {k} {b} p h = le-of-suc-le-suc (div-lt-iff-lt-mul p .1 (omega (arith, suc-mul k b)))
+
+pub ceilDiv-covers : (a : ℕ) {b : ℕ} → 0 < b → a ≤ ceilDiv a b * b
+unfolding ceilDiv
+ceilDiv-covers a {b} p =
+    omega (arith, suc-mul ((a + (b - 1)) / b) b, div-lt-iff-lt-mul {x = a + (b - 1)} {y = suc ((a + (b - 1)) / b)} p .0 (le-refl _))
+
+pub ceilDiv-self : (a b : ℕ) → ceilDiv a b ≤ a
+unfolding ceilDiv
+ceilDiv-self a zero = omega (arith, div-zero (a + (0 - 1)))
+ceilDiv-self a (suc b) = le-of-suc-le-suc (div-lt-iff-lt-mul (zero-lt-suc b) .1 (rw suc-mul (omega (arith, mul-suc a b))))
+
+-- ---- Laws of `when`
+
+pub when-mono : (test : Bool) {a b : ℕ} → a ≤ b → when test a ≤ when test b
+when-mono true h = h
+when-mono false h = zero-le
+
+pub when-bound : (test : Bool) {a m : ℕ} → a ≤ m → when test a ≤ m
+when-bound true h = h
+when-bound false h = zero-le
+
+pub when-and : (a b : Bool) (x : ℕ) → when (a && b) x ≡ when a (when b x)
+when-and true b x = refl
+when-and false b x = refl
