@@ -81,6 +81,16 @@ sumTo-tight f g (suc n) all le k l =
     (omega (arith, all n (omega arith), sumTo-mono f g n (λ j h. all j (omega arith))))
     k l
 
+-- f and g agree but at s
+pub sumTo-but : (f g : ℕ → ℕ) (n s : ℕ) → s < n → ((k : ℕ) → k < n → (k ≡ s → ⊥) → f k ≡ g k) → sumTo g n + f s ≡ sumTo f n + g s
+unfolding sumTo
+sumTo-but f g zero s l same = absurd (not-suc-le-zero l)
+sumTo-but f g (suc n) s l same =
+    ⊎-elim
+    (λ (e : s ≡ n). omega (arith, sumTo-cong f g n (λ k h. same k (omega arith) (λ q. omega arith)), ap f e, ap g e))
+    (λ (lt : s < n). omega (arith, sumTo-but f g n s lt (λ k h ne. same k (omega arith) ne), same n (omega arith) (λ q. omega arith)))
+    (eq-or-lt-of-le (le-of-suc-le-suc l))
+
 -- ---- `sumWhere`
 
 pub sumWhere-mono : (test : ℕ → Bool) (f g : ℕ → ℕ) (n : ℕ) → ((k : ℕ) → k < n → f k ≤ g k) → sumWhere test f n ≤ sumWhere test g n
@@ -157,6 +167,20 @@ countTo-pairs test zero = refl
 countTo-pairs test (suc n) =
     let twice : 2 * suc n ≡ suc (suc (2 * n)) = omega arith in
     omega (arith, ap (sumTo (λ k. when (test k) 1)) twice, countTo-pairs test n)
+
+pub countTo-zero : (test : ℕ → Bool) (n : ℕ) → ((k : ℕ) → k < n → test k ≡ false) → countTo test n ≡ 0
+unfolding countTo
+countTo-zero test n never = sumTo-zero (λ k. when (test k) 1) n (λ k h. ap (λ t. when t 1) (never k h))
+
+pub countTo-first : (test : ℕ → Bool) (n : ℕ) → countTo test (suc n) ≡ when (test 0) 1 + countTo (λ k. test (suc k)) n
+unfolding countTo
+countTo-first test n = sumTo-first (λ k. when (test k) 1) n
+
+pub countTo-but : (test test' : ℕ → Bool) (n s : ℕ) → s < n → ((k : ℕ) → k < n → (k ≡ s → ⊥) → test k ≡ test' k)
+    → countTo test' n + when (test s) 1 ≡ countTo test n + when (test' s) 1
+unfolding countTo
+countTo-but test test' n s l same =
+    sumTo-but (λ k. when (test k) 1) (λ k. when (test' k) 1) n s l (λ k h ne. ap (λ t. when t 1) (same k h ne))
 
 -- ---- `anyTo`
 

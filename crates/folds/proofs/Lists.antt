@@ -1,10 +1,11 @@
--- Laws of `tabulate`, `fillTo` and `sameList`.
+-- Laws of one store, and of `tabulate`, `fillTo` and `sameList`.
 -- Assumes nothing.
 use Prim.Native.Nat.{ℕ, zero, suc, _+_, _≤_, _<_}
 use mathlib.Core.Bool.{Bool, true, false, cond}
 use mathlib.Core.List.{List, [], _∷_, _++_}
 use mathlib.Core.Logic.{⊎-elim}
 use mathlib.Core.Path.{_≡_, refl, sym, ap, ap₂, subst, _∙_}
+use native.Mathlib.Decide.{ℕ-discrete}
 use native.Mathlib.Nat.{eq-or-lt-of-le, le-of-suc-le-suc, not-suc-le-zero}
 use native.Mathlib.Numerals.{add-one}
 use native.Mathlib.Omega.{arith}
@@ -14,6 +15,17 @@ use lib.Seq.{getD-at, ext-getD, getD-set-same, getD-set-other}
 use borrow.Author.Tests.{eqb-true, eq-eqb}
 use Rattle.folds.specs.Folds.{tabulate, fillTo, sameList}
 use Rattle.folds.proofs.Numbers.{below-suc, le-or-lt}
+
+-- ---- `set`
+
+-- what holds of the value stored and of every element before holds of every element after
+pub getD-set-all : {A : Type 0} (P : A → Type 0) (xs : List A) (i : ℕ) (v d : A) → i < length xs → P v → ((k : ℕ) → P (getD xs k d))
+    → (k : ℕ) → P (getD (set xs i v) k d)
+getD-set-all P xs i v d h here all k = go (ℕ-discrete k i)
+  where
+    go : Dec (k ≡ i) → P (getD (set xs i v) k d)
+    go (yes e) = subst P (sym (ap (λ (j : ℕ). getD (set xs i v) j d) e ∙ getD-set-same xs i v d h)) here
+    go (no n) = subst P (sym (getD-set-other xs i k v d n)) (all k)
 
 -- ---- `tabulate`
 

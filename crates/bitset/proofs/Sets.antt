@@ -1,0 +1,170 @@
+-- Laws of four words as a set of numbers below 256: the words of a test, what each operation makes of them, and the count of two sets' common numbers.
+-- Assumes nothing.
+use mathlib.Core.Path.{_≡_, refl, sym, ap, ap₂, _∙_}
+use mathlib.Core.Bool.{Bool, false, not, _&&_, _||_, and-true, and-false}
+use mathlib.Core.List.{List, [], _∷_}
+use Prim.Native.Nat.{ℕ, zero, suc, _+_, _-_, _*_, _/_, _%_, _^_, _<_}
+use native.Mathlib.Nat.{not-suc-le-zero, le-of-suc-le-suc, lt-of-le-of-lt}
+use native.Mathlib.Omega.{arith}
+use native.Mathlib.Decide.{ℕ-discrete}
+use mir.Syntax.{w64}
+use mir.Val.{Fits}
+use lib.Dec.{eqb}
+use lib.ListN.{length, getD, set, length-set}
+use lib.Seq.{ext-getD, getD-set-same, getD-set-other}
+use lib.Bits.{bitAnd, bitOr, or-lt, and-le-l, and-le-r}
+use lib.Count.{ones}
+use borrow.Author.Tests.{ne-eqb, eq-eqb}
+use Rattle.folds.specs.Folds.{when, countTo}
+use Rattle.folds.proofs.Numbers.{eqb-iff}
+use Rattle.folds.proofs.Folds.{countTo-none, countTo-cong, countTo-split, countTo-zero, countTo-but}
+use Rattle.folds.proofs.Lists.{getD-set-all}
+use Rattle.bitset.specs.Bits.{bit, member, wordAt, wordsOf}
+use Rattle.bitset.proofs.Words.{bit-none, bit-or, bit-and, bit-not, oneAt, bit-oneAt, ones-count, bit-wordOf, wordOf-is, wordOf-cong}
+
+-- ---- the words of a test
+
+below-four : (P : ℕ → Type 0) → P 0 → P 1 → P 2 → P 3 → (i : ℕ) → i < 4 → P i
+below-four P p q r s zero h = p
+below-four P p q r s (suc zero) h = q
+below-four P p q r s (suc (suc zero)) h = r
+below-four P p q r s (suc (suc (suc zero))) h = s
+below-four P p q r s (suc (suc (suc (suc i)))) h = absurd (not-suc-le-zero (le-of-suc-le-suc (le-of-suc-le-suc (le-of-suc-le-suc (le-of-suc-le-suc h)))))
+
+pub wordsOf-length : (test : ℕ → Bool) → length (wordsOf test) ≡ 4
+unfolding wordsOf
+wordsOf-length test = refl
+
+wordsOf-at : (test : ℕ → Bool) (i : ℕ) → i < 4 → getD (wordsOf test) i 0 ≡ wordAt test i
+unfolding wordsOf
+wordsOf-at test = below-four (λ (i : ℕ). getD (wordsOf test) i 0 ≡ wordAt test i) refl refl refl refl
+
+wordsOf-each : (word : ℕ → ℕ) (test : ℕ → Bool) → ((i : ℕ) → i < 4 → word i ≡ wordAt test i) → (word 0 ∷ word 1 ∷ word 2 ∷ word 3 ∷ []) ≡ wordsOf test
+unfolding wordsOf
+wordsOf-each word test same = λ i. same 0 (omega arith) i ∷ same 1 (omega arith) i ∷ same 2 (omega arith) i ∷ same 3 (omega arith) i ∷ []
+
+pub wordsOf-cong : (test test' : ℕ → Bool) → ((s : ℕ) → s < 256 → test s ≡ test' s) → wordsOf test ≡ wordsOf test'
+unfolding wordsOf
+wordsOf-cong test test' same =
+    wordsOf-each (wordAt test) test'
+    (λ i h. wordOf-cong (λ j. test (64 * i + j)) (λ j. test' (64 * i + j)) 64 (λ j l. same (64 * i + j) (omega arith)))
+
+-- a number's word and its bit there
+place : (s : ℕ) → 64 * (s / 64) + s % 64 ≡ s
+place s = omega arith
+
+member-at : (ws : List ℕ) (i j : ℕ) → j < 64 → member ws (64 * i + j) ≡ bit (getD ws i 0) j
+unfolding member
+member-at ws i j h =
+    let word : (64 * i + j) / 64 ≡ i = omega arith in
+    let rest : (64 * i + j) % 64 ≡ j = omega arith in
+    ap₂ (λ (x y : ℕ). bit (getD ws x 0) y) word rest
+
+-- they hold what passes the test
+pub member-wordsOf : (test : ℕ → Bool) (s : ℕ) → s < 256 → member (wordsOf test) s ≡ test s
+unfolding member
+member-wordsOf test s h =
+    ap (λ (w : ℕ). bit w (s % 64)) (wordsOf-at test (s / 64) (omega arith))
+    ∙ bit-wordOf 64 (λ j. test (64 * (s / 64) + j)) (s % 64) (omega arith) ∙ ap test (place s)
+
+-- and are the only four words of 64 bits that do
+pub words-ext : (ws : List ℕ) (test : ℕ → Bool) → length ws ≡ 4 → ((i : ℕ) → Fits w64 (getD ws i 0))
+    → ((s : ℕ) → s < 256 → member ws s ≡ test s) → ws ≡ wordsOf test
+words-ext ws test four fit same =
+    ext-getD 0 ws (wordsOf test) (four ∙ sym (wordsOf-length test))
+    (λ i h. let h4 : i < 4 = rw four at h in
+    wordOf-is 64 (getD ws i 0) (λ j. test (64 * i + j)) (fit i .fits) (λ j l. sym (member-at ws i j l) ∙ same (64 * i + j) (omega arith))
+    ∙ sym (wordsOf-at test i h4))
+
+-- ---- none, and those of two sets
+
+pub empty-words : (0 ∷ 0 ∷ 0 ∷ 0 ∷ []) ≡ wordsOf (λ t. false)
+empty-words = wordsOf-each (λ i. 0) (λ t. false) (λ i h. wordOf-is 64 0 (λ j. false) (omega arith) (λ j l. bit-none j))
+
+pub union-words : (ms ns : List ℕ) → ((k : ℕ) → Fits w64 (getD ms k 0)) → ((k : ℕ) → Fits w64 (getD ns k 0))
+    → (bitOr (getD ms 0 0) (getD ns 0 0) ∷ bitOr (getD ms 1 0) (getD ns 1 0) ∷ bitOr (getD ms 2 0) (getD ns 2 0) ∷ bitOr (getD ms 3 0) (getD ns 3 0) ∷ [])
+    ≡ wordsOf (λ t. member ms t || member ns t)
+union-words ms ns fitm fitn =
+    wordsOf-each (λ i. bitOr (getD ms i 0) (getD ns i 0)) (λ t. member ms t || member ns t)
+    (λ i h. wordOf-is 64 (bitOr (getD ms i 0) (getD ns i 0)) (λ j. member ms (64 * i + j) || member ns (64 * i + j))
+    (or-lt 64 (getD ms i 0) (getD ns i 0) (fitm i .fits) (fitn i .fits))
+    (λ j l. bit-or (getD ms i 0) (getD ns i 0) j ∙ ap₂ _||_ (sym (member-at ms i j l)) (sym (member-at ns i j l))))
+
+-- ---- one number more, and one less
+
+module _ (ws : List ℕ) (four : length ws ≡ 4) (fit : (k : ℕ) → Fits w64 (getD ws k 0)) where
+  -- word i replaced by v
+  replace-words : (i v : ℕ) (test : ℕ → Bool) → i < 4 → v < 2 ^ 64 → ((j : ℕ) → j < 64 → bit v j ≡ test (64 * i + j))
+      → ((t : ℕ) → (t / 64 ≡ i → ⊥) → member ws t ≡ test t) → set ws i v ≡ wordsOf test
+  unfolding member
+  replace-words i v test hi hv inside outside =
+      words-ext (set ws i v) test (length-set ws i v ∙ four) (getD-set-all (Fits w64) ws i v 0 (omega arith) (record { fits = hv }) fit)
+      (λ s h. go s (ℕ-discrete (s / 64) i))
+    where
+      go : (s : ℕ) → Dec (s / 64 ≡ i) → member (set ws i v) s ≡ test s
+      go s (yes e) =
+          ap (λ (k : ℕ). bit (getD (set ws i v) k 0) (s % 64)) e ∙ ap (λ (x : ℕ). bit x (s % 64)) (getD-set-same ws i v 0 (omega arith))
+          ∙ inside (s % 64) (omega arith) ∙ ap test (ap (λ (k : ℕ). 64 * k + s % 64) (sym e) ∙ place s)
+      go s (no n) = ap (λ (x : ℕ). bit x (s % 64)) (getD-set-other ws i (s / 64) v 0 n) ∙ outside s n
+
+  module _ (s : ℕ) (h : s < 256) where
+    one-here : (j : ℕ) → bit (oneAt (s % 64)) j ≡ eqb (64 * (s / 64) + j) s
+    one-here j = bit-oneAt (s % 64) j (omega arith) ∙ eqb-iff j (s % 64) (64 * (s / 64) + j) s (λ e. omega arith) (λ e. omega arith)
+
+    one-there : (t : ℕ) → (t / 64 ≡ s / 64 → ⊥) → false ≡ eqb t s
+    one-there t n = sym (ne-eqb t s (λ e. n (ap (λ (x : ℕ). x / 64) e)))
+
+    pub insert-words : set ws (s / 64) (bitOr (oneAt (s % 64)) (getD ws (s / 64) 0)) ≡ wordsOf (λ t. eqb t s || member ws t)
+    insert-words =
+        replace-words (s / 64) (bitOr (oneAt (s % 64)) (getD ws (s / 64) 0)) (λ t. eqb t s || member ws t) (omega arith)
+        (or-lt 64 (oneAt (s % 64)) (getD ws (s / 64) 0) (omega arith) (fit (s / 64) .fits))
+        (λ j k. bit-or (oneAt (s % 64)) (getD ws (s / 64) 0) j ∙ ap₂ _||_ (one-here j) (sym (member-at ws (s / 64) j k)))
+        (λ t n. ap (λ (b : Bool). b || member ws t) (one-there t n))
+
+    pub remove-words : set ws (s / 64) (bitAnd ((2 ^ 64 - 1) - oneAt (s % 64)) (getD ws (s / 64) 0)) ≡ wordsOf (λ t. not (eqb t s) && member ws t)
+    remove-words =
+        replace-words (s / 64) (bitAnd ((2 ^ 64 - 1) - oneAt (s % 64)) (getD ws (s / 64) 0)) (λ t. not (eqb t s) && member ws t) (omega arith)
+        (lt-of-le-of-lt (and-le-r ((2 ^ 64 - 1) - oneAt (s % 64)) (getD ws (s / 64) 0)) (fit (s / 64) .fits))
+        (λ j k. bit-and ((2 ^ 64 - 1) - oneAt (s % 64)) (getD ws (s / 64) 0) j
+        ∙ ap₂ _&&_ (bit-not 64 (oneAt (s % 64)) j (omega arith) k ∙ ap not (one-here j)) (sym (member-at ws (s / 64) j k)))
+        (λ t n. ap (λ (b : Bool). not b && member ws t) (one-there t n))
+
+-- ---- how many numbers two sets have in common
+
+module _ (ms ns : List ℕ) where
+  abbrev both : ℕ → Bool
+  both s = member ms s && member ns s
+
+  -- one word more
+  both-next : (i : ℕ) → Fits w64 (getD ms i 0) → countTo both (64 * i) + ones (bitAnd (getD ms i 0) (getD ns i 0)) ≡ countTo both (64 * i + 64)
+  both-next i fit =
+      let word : ones (bitAnd (getD ms i 0) (getD ns i 0)) ≡ countTo (λ j. both (64 * i + j)) 64 =
+      ones-count 64 (bitAnd (getD ms i 0) (getD ns i 0)) (lt-of-le-of-lt (and-le-l (getD ms i 0) (getD ns i 0)) (fit .fits))
+      ∙ countTo-cong (bit (bitAnd (getD ms i 0) (getD ns i 0))) (λ j. both (64 * i + j)) 64
+      (λ j k. bit-and (getD ms i 0) (getD ns i 0) j ∙ ap₂ _&&_ (sym (member-at ms i j k)) (sym (member-at ns i j k))) in
+      omega (arith, word, countTo-split both (64 * i) 64)
+
+  pub both-words : ((k : ℕ) → Fits w64 (getD ms k 0))
+      → ones (bitAnd (getD ms 0 0) (getD ns 0 0)) + ones (bitAnd (getD ms 1 0) (getD ns 1 0)) + ones (bitAnd (getD ms 2 0) (getD ns 2 0))
+      + ones (bitAnd (getD ms 3 0) (getD ns 3 0)) ≡ countTo (λ s. member ms s && member ns s) 256
+  both-words fit = omega (arith, countTo-none both, both-next 0 (fit 0), both-next 1 (fit 1), both-next 2 (fit 2), both-next 3 (fit 3))
+
+  -- nothing in the second set
+  pub both-none : ((s : ℕ) → s < 256 → member ns s ≡ false) → countTo (λ s. member ms s && member ns s) 256 ≡ 0
+  both-none none = countTo-zero both 256 (λ s h. ap (λ (t : Bool). member ms s && t) (none s h) ∙ and-false (member ms s))
+
+  -- a number that joins the second set adds itself, where the first has it
+  pub both-insert : (s : ℕ) → s < 256 → member ns s ≡ false
+      → countTo (λ t. member ms t && member (wordsOf (λ u. eqb u s || member ns u)) t) 256 ≡ countTo (λ t. member ms t && member ns t) 256 + when (member ms s) 1
+  both-insert s h new =
+      let joined : ℕ → Bool = λ t. member ms t && member (wordsOf (λ u. eqb u s || member ns u)) t in
+      let known : (t : ℕ) → t < 256 → joined t ≡ (member ms t && (eqb t s || member ns t)) =
+      λ t l. ap (λ (b : Bool). member ms t && b) (member-wordsOf (λ u. eqb u s || member ns u) t l) in
+      let before : both s ≡ false = ap (λ (b : Bool). member ms s && b) new ∙ and-false (member ms s) in
+      let after : joined s ≡ member ms s = known s h ∙ ap (λ (b : Bool). member ms s && (b || member ns s)) (eq-eqb s s refl) ∙ and-true (member ms s) in
+      omega (
+        arith,
+        ap (λ (b : Bool). when b 1) before,
+        ap (λ (b : Bool). when b 1) after,
+        countTo-but both joined 256 s h (λ t l n. sym (known t l ∙ ap (λ (b : Bool). member ms t && (b || member ns t)) (ne-eqb t s n))),
+      )

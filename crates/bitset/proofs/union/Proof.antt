@@ -1,0 +1,11 @@
+-- `bitset::union` meets its contract.
+use borrow.Author.Needs.{needs}
+use Rattle.bitset.proofs.Sets.{union-words}
+use Rattle.bitset.proofs.union.Statement.{statement}
+use Rattle.bitset.proofs.union.Tie as tie
+
+pub union-spec : {M : Type 1} → statement M
+union-spec =
+    tie.close
+    (tie.spec (λ c. search needs) (λ c. search needs) (λ c. search needs) (λ c. search needs) (λ c. search needs) (λ c. search needs) (λ c. search needs)
+    (λ c. search needs) (λ c. union-words (c .args .t1) (c .args .t2) (λ k. search needs) (λ k. search needs)))

@@ -1,0 +1,75 @@
+// Sets of numbers below 256, as the bits of four 64-bit words: s is bit s mod 64 (bit 0 lowest) of word floor(s/64).
+// The contracts hold for any four words.
+ghost use mathlib.Core.Path.{_≡_};
+ghost use mathlib.Core.Bool.{not, _&&_, _||_, false};
+ghost use Prim.Native.Nat.{ℕ, _<_, _≤_};
+ghost use lib.Dec.{eqb};
+ghost use lib.Bits.{bitAnd};
+ghost use lib.Count.{ones};
+ghost use Rattle.folds.specs.Folds.{countTo};
+ghost use Rattle.bitset.specs.Bits.{member, wordsOf};
+
+// The set with nothing in it.
+pub fn empty() -> [u64; 4]
+    ensures { λ r. ⌜ r ≡ wordsOf (λ (t : ℕ). false) ⌝ }
+{
+    [0u64; 4]
+}
+
+// The set with s in it.
+pub fn insert(set: [u64; 4], s: usize) -> [u64; 4]
+    requires { ⌜ s < 256 ⌝ }
+    ensures { λ r. ⌜ r ≡ wordsOf (λ (t : ℕ). eqb t s || member set t) ⌝ }
+{
+    let mut out = set;
+    let i = s / 64;
+    let w = out[i];
+    out[i] = (1u64 << (s % 64)) | w;
+    out
+}
+
+// The set without s.
+pub fn remove(set: [u64; 4], s: usize) -> [u64; 4]
+    requires { ⌜ s < 256 ⌝ }
+    ensures { λ r. ⌜ r ≡ wordsOf (λ (t : ℕ). not (eqb t s) && member set t) ⌝ }
+{
+    let mut out = set;
+    let i = s / 64;
+    let w = out[i];
+    out[i] = !(1u64 << (s % 64)) & w;
+    out
+}
+
+// Whether s is in the set.
+pub fn contains(set: [u64; 4], s: usize) -> bool
+    requires { ⌜ s < 256 ⌝ }
+    ensures { λ r. ⌜ r ≡ member set s ⌝ }
+{
+    let w = set[s / 64];
+    (w >> (s % 64)) % 2 == 1
+}
+
+// The numbers in a or in b.
+pub fn union(a: [u64; 4], b: [u64; 4]) -> [u64; 4]
+    ensures { λ r. ⌜ r ≡ wordsOf (λ (t : ℕ). member a t || member b t) ⌝ }
+{
+    [a[0] | b[0], a[1] | b[1], a[2] | b[2], a[3] | b[3]]
+}
+
+// How many bits are set in both words.
+fn ones_of_both(x: u64, y: u64) -> u32
+    ensures { λ r. ⌜ (r ≡ ones (bitAnd x y)) × (r ≤ 64) ⌝ }
+{
+    u64::count_ones(x & y)
+}
+
+// How many numbers are in both sets.
+pub fn count_both(a: [u64; 4], b: [u64; 4]) -> u32
+    ensures { λ r. ⌜ (r ≡ countTo (λ (s : ℕ). member a s && member b s) 256) × (r ≤ 256) ⌝ }
+{
+    let p = ones_of_both(a[0], b[0]);
+    let q = ones_of_both(a[1], b[1]);
+    let r = ones_of_both(a[2], b[2]);
+    let s = ones_of_both(a[3], b[3]);
+    p + q + r + s
+}
