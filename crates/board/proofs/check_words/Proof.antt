@@ -1,0 +1,10 @@
+-- `board::check_words` meets its contract.
+-- Assumes nothing.
+use borrow.Author.Needs.{needs}
+use Rattle.board.specs.Refusals.{refuseFirst}
+use Rattle.board.proofs.check_words.Statement.{statement}
+use Rattle.board.proofs.check_words.Tie as tie
+
+pub check-words-spec : {M : Type 1} → statement M
+unfolding refuseFirst
+check-words-spec = tie.close (tie.spec (λ c κs. search needs) (λ c κs. search needs) (λ c. cc))

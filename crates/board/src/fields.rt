@@ -1,0 +1,183 @@
+// One accessor a field: the word of a board that passed its checks, with its range.
+use folds::index;
+ghost use mathlib.Core.Path.{_≡_};
+ghost use Prim.Native.Nat.{_+_, _*_, _<_, _≤_};
+ghost use Rattle.board.specs.Layout as at;
+ghost use Rattle.board.specs.Sound.{Sound, Between};
+
+// ℓ.
+pub fn cores(board: &[u32]) -> u32
+    requires { ⌜ Sound (now board) ⌝ }
+    ensures { λ r. ⌜ (r ≡ at.cores (now (board .entry))) × Between 1 8 r ⌝ }
+{
+    board[0]
+}
+
+// n.
+pub fn tasks(board: &[u32]) -> u32
+    requires { ⌜ Sound (now board) ⌝ }
+    ensures { λ r. ⌜ (r ≡ at.tasks (now (board .entry))) × Between 1 64 r ⌝ }
+{
+    board[1]
+}
+
+// q.
+pub fn traces(board: &[u32]) -> u32
+    requires { ⌜ Sound (now board) ⌝ }
+    ensures { λ r. ⌜ (r ≡ at.traces (now (board .entry))) × Between 1 512 r ⌝ }
+{
+    board[2]
+}
+
+// g.
+pub fn instructions(board: &[u32]) -> u32
+    requires { ⌜ Sound (now board) ⌝ }
+    ensures { λ r. ⌜ (r ≡ at.instructions (now (board .entry))) × Between 1 8192 r ⌝ }
+{
+    board[3]
+}
+
+// 0 none, 1 scratchpad, 2 direct-mapped cache.
+pub fn memory(board: &[u32]) -> u32
+    requires { ⌜ Sound (now board) ⌝ }
+    ensures { λ r. ⌜ (r ≡ at.memory (now (board .entry))) × (r ≤ 2) ⌝ }
+{
+    board[4]
+}
+
+// 0 fixed-priority, 1 processor-priority, 2 FIFO, 3 round-robin, 4 TDMA.
+pub fn bus(board: &[u32]) -> u32
+    requires { ⌜ Sound (now board) ⌝ }
+    ensures { λ r. ⌜ (r ≡ at.bus (now (board .entry))) × (r ≤ 4) ⌝ }
+{
+    board[5]
+}
+
+// v, where the bus has slots.
+pub fn slots_each(board: &[u32]) -> u32
+    requires { ⌜ (Sound (now board)) × (3 ≤ at.bus (now board)) ⌝ }
+    ensures { λ r. ⌜ (r ≡ at.slotsEach (now (board .entry))) × Between 1 8 r ⌝ }
+{
+    board[6]
+}
+
+// d, the cycles of one bus access.
+pub fn access_cycles(board: &[u32]) -> u32
+    requires { ⌜ Sound (now board) ⌝ }
+    ensures { λ r. ⌜ (r ≡ at.accessCycles (now (board .entry))) × Between 1 255 r ⌝ }
+{
+    board[7]
+}
+
+// 0 none, 1 burst, 2 distributed.
+pub fn refresh(board: &[u32]) -> u32
+    requires { ⌜ Sound (now board) ⌝ }
+    ensures { λ r. ⌜ (r ≡ at.refresh (now (board .entry))) × (r ≤ 2) ⌝ }
+{
+    board[8]
+}
+
+// Tr, where there is a refresh.
+pub fn refresh_interval(board: &[u32]) -> u32
+    requires { ⌜ (Sound (now board)) × (1 ≤ at.refresh (now board)) ⌝ }
+    ensures { λ r. ⌜ (r ≡ at.refreshInterval (now (board .entry))) × Between 1 268435455 r ⌝ }
+{
+    board[9]
+}
+
+// The rows, where there is a refresh.
+pub fn refresh_rows(board: &[u32]) -> u32
+    requires { ⌜ (Sound (now board)) × (1 ≤ at.refresh (now board)) ⌝ }
+    ensures { λ r. ⌜ (r ≡ at.refreshRows (now (board .entry))) × Between 1 65535 r ⌝ }
+{
+    board[10]
+}
+
+// dr, the cycles of one refresh.
+pub fn refresh_cycles(board: &[u32]) -> u32
+    requires { ⌜ Sound (now board) ⌝ }
+    ensures { λ r. ⌜ (r ≡ at.refreshCycles (now (board .entry))) × (r ≤ 255) ⌝ }
+{
+    board[11]
+}
+
+// The pass limit.
+pub fn pass_limit(board: &[u32]) -> u32
+    requires { ⌜ Sound (now board) ⌝ }
+    ensures { λ r. ⌜ (r ≡ at.passLimit (now (board .entry))) × (1 ≤ r) ⌝ }
+{
+    board[12]
+}
+
+// The code blocks that a scratchpad holds.
+pub fn held_code(board: &[u32]) -> u32
+    requires { ⌜ (Sound (now board)) × (at.memory (now board) ≡ 1) ⌝ }
+    ensures { λ r. ⌜ (r ≡ at.heldCode (now (board .entry))) × (r ≤ 32768) ⌝ }
+{
+    board[13]
+}
+
+// The data blocks that a scratchpad holds.
+pub fn held_data(board: &[u32]) -> u32
+    requires { ⌜ Sound (now board) ⌝ }
+    ensures { λ r. ⌜ (r ≡ at.heldData (now (board .entry))) × (r ≤ 32768) ⌝ }
+{
+    board[14]
+}
+
+// c, the sets of a cache.
+pub fn cache_sets(board: &[u32]) -> u32
+    requires { ⌜ (Sound (now board)) × (at.memory (now board) ≡ 2) ⌝ }
+    ensures { λ r. ⌜ (r ≡ at.cacheSets (now (board .entry))) × Between 1 256 r ⌝ }
+{
+    board[13]
+}
+
+// Word `field` of task k.
+fn task_word(board: &[u32], k: usize, field: usize) -> u32
+    requires { ⌜ (Sound (now board)) × (k < at.tasks (now board)) × (field < 5) ⌝ }
+    ensures { λ r. ⌜ r ≡ at.taskWord field (now (board .entry)) k ⌝ }
+{
+    board[20 + 5 * k + field]
+}
+
+// The core of task k, from 1.
+pub fn core(board: &[u32], k: usize) -> u32
+    requires { ⌜ (Sound (now board)) × (k < at.tasks (now board)) ⌝ }
+    ensures { λ r. ⌜ (r ≡ at.core (now (board .entry)) k) × Between 1 8 r × (r ≤ at.cores (now (board .entry))) ⌝ }
+{
+    task_word(board, k, 0)
+}
+
+// T of task k.
+pub fn period(board: &[u32], k: usize) -> u32
+    requires { ⌜ (Sound (now board)) × (k < at.tasks (now board)) ⌝ }
+    ensures { λ r. ⌜ (r ≡ at.period (now (board .entry)) k) × Between 1 268435455 r ⌝ }
+{
+    task_word(board, k, 1)
+}
+
+// D of task k.
+pub fn deadline(board: &[u32], k: usize) -> u32
+    requires { ⌜ (Sound (now board)) × (k < at.tasks (now board)) ⌝ }
+    ensures { λ r. ⌜ (r ≡ at.deadline (now (board .entry)) k) × Between 1 268435455 r ⌝ }
+{
+    task_word(board, k, 2)
+}
+
+// The traces of task k.
+pub fn trace_count(board: &[u32], k: usize) -> u32
+    requires { ⌜ (Sound (now board)) × (k < at.tasks (now board)) ⌝ }
+    ensures { λ r. ⌜ (r ≡ at.traceCount (now (board .entry)) k) × Between 1 8 r ⌝ }
+{
+    task_word(board, k, 3)
+}
+
+// The length of trace t.
+pub fn trace_length(board: &[u32], t: usize) -> u32
+    requires { ⌜ (Sound (now board)) × (t < at.traces (now board)) ⌝ }
+    ensures { λ r. ⌜ (r ≡ at.traceLength (now (board .entry)) t) × Between 1 1024 r ⌝ }
+{
+    let n = index(board[1]);
+    board[20 + 5 * n + t]
+}
