@@ -1,0 +1,103 @@
+-- The bus accesses of a trace, instruction by instruction, are its memory demand.
+-- Assumes nothing.
+use Prim.Native.Nat.{ℕ, zero, suc, _+_, _*_, _≤_, _<_, zero-le}
+use mathlib.Core.Bool.{Bool, true, false, cond, _&&_}
+use mathlib.Core.List.{[], _∷_}
+use mathlib.Core.Path.{_≡_, refl, sym, ap, ap₂, _∙_}
+use native.Mathlib.Decide.{ℕ-discrete}
+use native.Mathlib.Numerals.{add-one}
+use native.Mathlib.Omega.{arith}
+use borrow.Author.Tests.{eq-eqb, ne-eqb, le-leb}
+use lib.Dec.{leb}
+use lib.ListN.{length, length-append}
+use Rattle.folds.specs.Folds.{when, sumTo, countTo}
+use Rattle.folds.proofs.Folds.{sumTo-add, countTo-none, countTo-next, countTo-cong}
+use Rattle.board.specs.Layout.{memory, heldCode, heldData, cacheSets, kindOf, blockOf, firstDataBlock}
+use Rattle.trace.specs.Traces.{Trace, fetch, work, reads, writes, dataBlock, loadsBy, loads, busLoads, traceMD}
+use Rattle.trace.specs.Slots.{loadAt, slotMisses, accesses}
+use Rattle.trace.proofs.Loads.{loadsBefore-next}
+use Rattle.trace.proofs.Slots.{misses-slots}
+
+module _ (t : Trace) where
+  -- each instruction loads its block, and its data block where it reads
+  pub loads-count : (n : ℕ) → length (loads t 0 n) ≡ countTo (λ p. true) n + countTo (reads t) n
+  unfolding loads
+  loads-count zero = omega (arith, countTo-none (λ p. true), countTo-none (reads t))
+  loads-count (suc n) =
+      let next = ap length (sym (ap (loads t 0) (add-one n)) ∙ loadsBefore-next t n) in
+      let by : length (loadsBy t n) ≡ 1 + when (reads t n) 1 = go (reads t n) in
+      let more : suc n ≡ n + 1 = omega arith in
+      omega (
+        arith,
+        next,
+        length-append (loads t 0 n) (loadsBy t n),
+        by,
+        loads-count n,
+        countTo-next (λ p. true) n,
+        countTo-next (reads t) n,
+        ap (countTo (λ p. true)) more,
+        ap (countTo (reads t)) more,
+      )
+    where
+      go : (r : Bool) → length (fetch t n ∷ cond r (dataBlock t n ∷ []) []) ≡ 1 + when r 1
+      go true = refl
+      go false = refl
+
+  -- ---- the accesses of one instruction, by its kind: f for the block x that it fetches, r for the work word w that it reads by
+
+  module _ (low high p f x : ℕ) (fetched : f ≡ when (leb low x) 1) (block : x ≡ fetch t p) where
+    fetch-is : f ≡ when (leb low (fetch t p)) 1
+    fetch-is = fetched ∙ ap (λ (m : ℕ). when (leb low m) 1) block
+
+    pub accesses-execute : kindOf (work t p) ≡ 0 → f ≡ accesses t low high p
+    unfolding accesses
+    accesses-execute k = rw k (omega (arith, fetch-is))
+
+    pub accesses-read : (r w : ℕ) → r ≡ when (leb high (blockOf w)) 1 → w ≡ work t p → kindOf (work t p) ≡ 1 → f + r ≡ accesses t low high p
+    unfolding accesses
+    accesses-read r w read word k = rw k (omega (arith, fetch-is, read ∙ ap (λ (v : ℕ). when (leb high (blockOf v)) 1) word))
+
+    pub accesses-write : kindOf (work t p) ≡ 2 → f + 1 ≡ accesses t low high p
+    unfolding accesses
+    accesses-write k = rw k (omega (arith, fetch-is))
+
+  -- ---- their sum
+
+  sum-is : (low high : ℕ) → sumTo (accesses t low high) (t .len)
+      ≡ countTo (λ p. leb low (fetch t p)) (t .len) + countTo (λ p. reads t p && leb (high) (dataBlock t p)) (t .len) + countTo (writes t) (t .len)
+  unfolding accesses countTo
+  sum-is low high =
+      sumTo-add (λ p. when (leb low (fetch t p)) 1 + when (reads t p && leb (high) (dataBlock t p)) 1) (λ p. when (writes t p) 1) (t .len)
+      ∙ ap (λ (k : ℕ). k + sumTo (λ p. when (writes t p) 1) (t .len))
+      (sumTo-add (λ p. when (leb low (fetch t p)) 1) (λ p. when (reads t p && leb (high) (dataBlock t p)) 1) (t .len))
+
+  md-is : (m : ℕ) → memory (t .words) ≡ m → busLoads t m + countTo (writes t) (t .len) ≡ traceMD t
+  unfolding traceMD
+  md-is m e = ap (λ (k : ℕ). busLoads t k + countTo (writes t) (t .len)) (sym e)
+
+  -- memory 1
+  pub traceMD-held : memory (t .words) ≡ 1 → sumTo (accesses t (heldCode (t .words)) (firstDataBlock + heldData (t .words))) (t .len) ≡ traceMD t
+  unfolding busLoads
+  traceMD-held e = sum-is (heldCode (t .words)) (firstDataBlock + heldData (t .words)) ∙ md-is 1 e
+
+  -- memory 0: nothing is held, and what is read is a data block
+  pub traceMD-none : memory (t .words) ≡ 0 → ((p : ℕ) → p < t .len → 1 ≤ kindOf (work t p) → firstDataBlock ≤ dataBlock t p)
+      → sumTo (accesses t 0 firstDataBlock) (t .len) ≡ traceMD t
+  unfolding busLoads
+  traceMD-none e known =
+      sum-is 0 firstDataBlock
+      ∙ ap (λ (k : ℕ). k + countTo (writes t) (t .len))
+      (ap₂ _+_ (countTo-cong (λ p. leb 0 (fetch t p)) (λ p. true) (t .len) (λ p h. le-leb 0 (fetch t p) zero-le))
+      (countTo-cong (λ p. reads t p && leb firstDataBlock (dataBlock t p)) (reads t) (t .len) (λ p h. go p h (ℕ-discrete (kindOf (work t p)) 1)))
+      ∙ sym (loads-count (t .len)))
+      ∙ md-is 0 e
+    where
+      go : (p : ℕ) → p < t .len → Dec (kindOf (work t p) ≡ 1) → (reads t p && leb firstDataBlock (dataBlock t p)) ≡ reads t p
+      go p h (yes k) = rw (eq-eqb (kindOf (work t p)) 1 k) (le-leb firstDataBlock (dataBlock t p) (known p h (omega arith)))
+      go p h (no k) = rw (ne-eqb (kindOf (work t p)) 1 k)
+
+  -- memory 2
+  pub traceMD-cached : memory (t .words) ≡ 2
+      → countTo (slotMisses (loadAt t) (cacheSets (t .words))) (2 * t .len) + countTo (writes t) (t .len) ≡ traceMD t
+  unfolding busLoads
+  traceMD-cached e = ap (λ (k : ℕ). k + countTo (writes t) (t .len)) (misses-slots t (cacheSets (t .words))) ∙ md-is 2 e

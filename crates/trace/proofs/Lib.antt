@@ -1,0 +1,14 @@
+-- The laws that join the code's scans to the definitions, and the walks of the functions over a trace that is held.
+pub mod Places
+pub mod Loads
+pub mod Slots
+pub mod Sets
+pub mod Counts
+pub mod Scans
+pub mod Misses
+pub mod Bounds
+pub mod Touched
+pub mod Accessor
+pub mod Above
+pub mod Instructions
+pub mod Reciprocal

@@ -1,0 +1,10 @@
+-- The number by which the code multiplies to divide a block by the sets of a cache. A reader of the definitions can pass this file by.
+-- Assumes nothing.
+use Prim.Native.Nat.{ℕ, _+_, _/_, _≤_}
+use mathlib.Core.Path.{_≡_}
+
+-- 1 .. 256 sets, and their reciprocal in units of 2^-24
+pub record Sets (sets inverse : ℕ) : Type 0 where
+  pub some : 1 ≤ sets
+  pub few : sets ≤ 256
+  pub reciprocal : inverse ≡ 16777216 / sets + 1

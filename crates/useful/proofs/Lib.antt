@@ -1,0 +1,6 @@
+-- The laws that join the records and the code's scans to the definitions.
+pub mod Subsets
+pub mod Writes
+pub mod Passing
+pub mod Recording
+pub mod Points

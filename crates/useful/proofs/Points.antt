@@ -1,0 +1,104 @@
+-- The largest number over the records of a trace is the largest over its points.
+-- Assumes nothing.
+use Prim.Native.Nat.{ℕ, zero, suc, _+_, _≤_, _<_, zero-le, max}
+use mathlib.Core.Path.{_≡_, refl, ap, _∙_}
+use mathlib.Core.Bool.{Bool, true, false, _&&_, false≢true}
+use mathlib.Core.List.{List}
+use mathlib.Core.Logic.{_⊎_, inl, inr, ⊎-elim}
+use native.Mathlib.Nat.{le-antisymm, le-trans, le-of-eq, not-suc-le-zero}
+use native.Mathlib.Omega.{arith}
+use Rattle.folds.specs.Folds.{when, maxTo, countTo}
+use Rattle.folds.proofs.Numbers.{below-suc}
+use Rattle.folds.proofs.Loops.{maxTo-turn}
+use Rattle.folds.proofs.Folds.{maxTo-none, maxTo-bound, sumTo-mono, countTo-zero, countTo-cong, countTo-bound}
+use Rattle.bitset.specs.Bits.{member}
+use Rattle.bitset.proofs.Sets.{member-wordsOf}
+use Rattle.trace.specs.Traces.{Trace, useful, usefulAt, mostUseful}
+use Rattle.useful.specs.Records.{recordAt, Recorded, mostCommon}
+
+-- one of the largest
+pub maxTo-part : (f : ℕ → ℕ) (n k : ℕ) → k < n → f k ≤ maxTo f n
+unfolding maxTo
+maxTo-part f zero k l = absurd (not-suc-le-zero l)
+maxTo-part f (suc n) k l =
+    below-suc (λ j. f j ≤ maxTo f (suc n)) n (λ j h. omega (arith, maxTo-part f n j h)) (omega arith) k l
+
+-- nothing passes the test, or something does
+none-or-some : (test : ℕ → Bool) (n : ℕ) → ((k : ℕ) → k < n → test k ≡ false) ⊎ ((k : ℕ) × (k < n) × (test k ≡ true))
+none-or-some test zero = inl (λ k l. absurd (not-suc-le-zero l))
+none-or-some test (suc n) = go (test n) refl (none-or-some test n)
+  where
+    go : (here : Bool) → test n ≡ here → ((k : ℕ) → k < n → test k ≡ false) ⊎ ((k : ℕ) × (k < n) × (test k ≡ true))
+        → ((k : ℕ) → k < suc n → test k ≡ false) ⊎ ((k : ℕ) × (k < suc n) × (test k ≡ true))
+    go true e rest = inr (n, omega arith, e)
+    go false e (inl none) = inl (below-suc (λ k. test k ≡ false) n none e)
+    go false e (inr some) = inr (some .0, (let l : some .0 < n = some .1 in omega arith), some .2)
+
+countTo-subset : (test test' : ℕ → Bool) (n : ℕ) → ((k : ℕ) → k < n → test k ≡ true → test' k ≡ true) → countTo test n ≤ countTo test' n
+unfolding countTo
+countTo-subset test test' n all = sumTo-mono _ _ n (λ k h. go (test k) (test' k) (all k h))
+  where
+    go : (t t' : Bool) → (t ≡ true → t' ≡ true) → when t 1 ≤ when t' 1
+    go true t' f = rw (f refl) (omega arith)
+    go false t' f = zero-le
+
+and-subset : (a b c : Bool) → (a ≡ true → b ≡ true) → (a && c) ≡ true → (b && c) ≡ true
+and-subset true b c f e = rw (f refl) e
+and-subset false b c f e = absurd (false≢true e)
+
+and-left : (a c : Bool) → (a && c) ≡ true → a ≡ true
+and-left true c e = refl
+and-left false c e = e
+
+module _ (t : Trace) (lives : List ℕ) (m : ℕ) (all : Recorded t lives m) (test : ℕ → Bool) where
+  -- what a record has in common with the test
+  abbrev common : ℕ → ℕ
+  common q = countTo (λ s. member (recordAt lives q) s && test s) 256
+
+  record-is : (q : ℕ) → q < m → common q ≤ mostUseful t test
+  unfolding mostUseful usefulAt
+  record-is q h =
+      let at = all .point q h in
+      let same : common q ≡ usefulAt t test (at .0) =
+      countTo-cong (λ s. member (recordAt lives q) s && test s) (λ s. useful t (at .0) s && test s) 256
+      (λ s l. ap (λ (u : Bool). u && test s) (ap (λ (w : List ℕ). member w s) (at .2) ∙ member-wordsOf (useful t (at .0)) s l)) in
+      le-trans (le-of-eq same) (maxTo-part (usefulAt t test) (t .len) (at .0) (at .1))
+
+  point-is : (p : ℕ) → p < t .len → usefulAt t test p ≤ maxTo common m
+  unfolding usefulAt
+  point-is p h = ⊎-elim none some (none-or-some (λ s. useful t p s && test s) 256)
+    where
+      none : ((s : ℕ) → s < 256 → (useful t p s && test s) ≡ false) → usefulAt t test p ≤ maxTo common m
+      none never = omega (arith, countTo-zero (λ s. useful t p s && test s) 256 never)
+
+      some : (s : ℕ) × (s < 256) × ((useful t p s && test s) ≡ true) → usefulAt t test p ≤ maxTo common m
+      some one =
+          let in-record = all .cover p (one .0) h (one .1) (and-left (useful t p (one .0)) (test (one .0)) (one .2)) in
+          le-trans
+          (countTo-subset (λ s. useful t p s && test s) (λ s. member (recordAt lives (in-record .0)) s && test s) 256
+          (λ s l. and-subset (useful t p s) (member (recordAt lives (in-record .0)) s) (test s) (in-record .2 s l)))
+          (maxTo-part common m (in-record .0) (in-record .1))
+
+  -- the largest over the records is the largest over the points
+  pub mostCommon-is : mostCommon lives m test ≡ mostUseful t test
+  unfolding mostCommon mostUseful
+  mostCommon-is =
+      le-antisymm
+      (maxTo-bound common m (mostUseful t test) record-is)
+      (maxTo-bound (usefulAt t test) (t .len) (maxTo common m) point-is)
+
+pub mostCommon-bound : (lives : List ℕ) (m : ℕ) (test : ℕ → Bool) → mostCommon lives m test ≤ 256
+unfolding mostCommon
+mostCommon-bound lives m test = maxTo-bound _ m 256 (λ q h. countTo-bound (λ s. member (recordAt lives q) s && test s) 256)
+
+-- ---- record by record
+
+pub mostCommon-none : (lives : List ℕ) (test : ℕ → Bool) → mostCommon lives 0 test ≡ 0
+unfolding mostCommon
+mostCommon-none lives test = maxTo-none _
+
+-- one record more, which has n sets in common with the test
+pub mostCommon-turn : (lives : List ℕ) (q most n : ℕ) (test : ℕ → Bool) → most ≡ mostCommon lives q test
+    → n ≡ countTo (λ s. member (recordAt lives q) s && test s) 256 → max most n ≡ mostCommon lives (q + 1) test
+unfolding mostCommon
+mostCommon-turn lives q most n test e h = maxTo-turn (λ k. countTo (λ s. member (recordAt lives k) s && test s) 256) q e h
