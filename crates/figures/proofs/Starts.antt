@@ -1,0 +1,65 @@
+-- Laws of the places where a board's traces start, and of a walk over the traces of one task.
+-- Assumes nothing.
+use Prim.Native.Nat.{ℕ, _+_, _≤_, _<_, max}
+use mathlib.Core.List.{List}
+use mathlib.Core.Path.{_≡_, sym, ap, ap₂, subst₂, _∙_}
+use native.Mathlib.Omega.{arith}
+use lib.ListN.{length}
+use Rattle.folds.specs.Folds.{maxTo}
+use Rattle.folds.proofs.Folds.{sumTo-next}
+use Rattle.folds.proofs.Loops.{maxTo-turn}
+use Rattle.board.specs.Layout.{traces, traceCount, firstTrace, firstInstruction, traceLength}
+use Rattle.board.specs.Sound.{Sound}
+use Rattle.board.proofs.Sound.{traces-fit, trace-fits}
+use Rattle.trace.specs.Traces.{Trace, traceOf}
+use Rattle.trace.specs.Places.{traceAt, Lies}
+use Rattle.trace.proofs.Places.{trace-lies, traceOf-is}
+use Rattle.figures.specs.Ready.{Ready}
+use Rattle.figures.specs.Starts.{startOf, Starts}
+use Rattle.figures.specs.Figures.{taskTrace}
+
+pub first-known : (b : List ℕ) (k : ℕ) → Ready b k → firstTrace b k < traces b
+first-known b k ready = omega (arith, traces-fit b (ready .sound) k (ready .task), ready .sound .traceCount k (ready .task))
+
+-- ---- the place of a trace
+
+-- the next trace starts where this one ends
+pub startOf-next : (b : List ℕ) (r : ℕ) → startOf b (r + 1) ≡ startOf b r + traceLength b r
+unfolding firstInstruction
+startOf-next b r = omega (arith, sumTo-next (traceLength b) r)
+
+pub startOf-fits : (b : List ℕ) → Sound b → (r : ℕ) → r < traces b → startOf b r + traceLength b r ≤ length b
+startOf-fits b s r h = omega (arith, s .words, trace-fits b s r h)
+
+module _ (b : List ℕ) (r start : ℕ) (s : Starts b r start) (len : ℕ) (e : len ≡ traceLength b r) where
+  pub starts-lies : Lies b start len
+  starts-lies = subst₂ (Lies b) (sym (s .place)) (sym e) (trace-lies b (s .sound) r (s .trace))
+
+  pub starts-trace : traceAt b start len ≡ traceOf b r
+  starts-trace = ap₂ (traceAt b) (s .place) e ∙ sym (traceOf-is b r)
+
+-- ---- a walk over the traces of task k: after r of them it stands at the next
+
+pub record At (b : List ℕ) (k r trace start : ℕ) : Type 0 where
+  pub known : trace ≡ firstTrace b k + r
+  pub place : start ≡ startOf b trace
+
+pub at-first : (b : List ℕ) (k trace start : ℕ) → trace ≡ firstTrace b k → start ≡ startOf b (firstTrace b k) → At b k 0 trace start
+at-first b k trace start e p = record { known = omega arith; place = p ∙ ap (startOf b) (sym e) }
+
+pub at-next : (b : List ℕ) (k r trace start trace' start' : ℕ) → At b k r trace start → trace' ≡ trace + 1 → start' ≡ startOf b (trace + 1)
+    → At b k (r + 1) trace' start'
+at-next b k r trace start trace' start' at e p = record { known = omega arith; place = p ∙ ap (startOf b) (sym e) }
+
+pub at-starts : (b : List ℕ) (k r trace start : ℕ) → Ready b k → At b k r trace start → r < traceCount b k → Starts b trace start
+at-starts b k r trace start ready at h = record {
+  sound = ready .sound;
+  trace = omega (arith, traces-fit b (ready .sound) k (ready .task));
+  place = at .place;
+}
+
+-- one trace more
+pub largest-turn : (F : Trace → ℕ) (b : List ℕ) (k r trace start : ℕ) {acc x : ℕ} → At b k r trace start
+    → acc ≡ maxTo (λ i. F (taskTrace b k i)) r → x ≡ F (traceOf b trace)
+    → max acc x ≡ maxTo (λ i. F (taskTrace b k i)) (r + 1)
+largest-turn F b k r trace start at e h = maxTo-turn (λ i. F (taskTrace b k i)) r e (h ∙ ap (λ (i : ℕ). F (traceOf b i)) (at .known))

@@ -1,0 +1,136 @@
+// Reads boards from standard input, one to a line, and prints of each the figures, a line a task (its number, core, T, D, PD, MD and the words
+// of its ECB), and the overheads: from the table, a line a task i, and once more those of the last task, each by a call of its own.
+use board::Verdict;
+use board::fields::tasks;
+use figures::Figure;
+use figures::figure_of;
+use figures::preemption::overhead;
+use figures::preemption::overheads;
+use folds::index;
+use folds::wide;
+use libc::STDOUT_FILENO;
+use lines::read_line;
+ghost use Prim.Native.Nat.{_+_, _<_, _≤_};
+ghost use lib.ListN.{length};
+ghost use Rattle.board.specs.Sound.{Sound};
+
+fn main() {
+    let mut text = [0u8; 262144];
+    let n = io::read_full(0, &mut text);
+    all_lines(&text[..n]);
+}
+
+fn all_lines(text: &[u8]) {
+    let mut at = 0;
+    while at < text.len() {
+        at = one_line(text, at);
+    }
+}
+
+// Answers the line that starts at from, and says where the next one starts.
+fn one_line(text: &[u8], from: usize) -> usize
+    requires { ⌜ from < length (now text) ⌝ }
+    ensures { λ r. ⌜ from < r ⌝ }
+{
+    let mut words = [0u32; 16384];
+    let line = read_line(text, from, &mut words);
+    let count = line.count;
+    answer(&words[..count]);
+    line.next
+}
+
+fn answer(words: &[u32]) {
+    match board::check(words) {
+        Verdict::Passed => {
+            print_board(words);
+        }
+        Verdict::Refused(number, place) => {
+            io::write_all(STDOUT_FILENO, b"bad");
+            print_field(number as u64);
+            print_field(place as u64);
+            end_line();
+        }
+    }
+}
+
+fn print_board(board: &[u32])
+    requires { ⌜ Sound (now board) ⌝ }
+{
+    print_figures(board);
+    print_overheads(board);
+    print_last(board);
+}
+
+fn print_figures(board: &[u32])
+    requires { ⌜ Sound (now board) ⌝ }
+{
+    let n = index(tasks(board));
+    let mut k: usize = 0;
+    while k < n {
+        print_figure(k as u64 + 1, figure_of(board, k));
+        k += 1;
+    }
+}
+
+fn print_figure(number: u64, figure: Figure) {
+    let ecb = figure.ecb;
+    io::print_decimal(STDOUT_FILENO, number);
+    print_field(wide(figure.core));
+    print_field(wide(figure.period));
+    print_field(wide(figure.deadline));
+    print_field(wide(figure.pd));
+    print_field(wide(figure.md));
+    print_field(ecb[0]);
+    print_field(ecb[1]);
+    print_field(ecb[2]);
+    print_field(ecb[3]);
+    end_line();
+}
+
+fn print_overheads(board: &[u32])
+    requires { ⌜ Sound (now board) ⌝ }
+{
+    let n = index(tasks(board));
+    let mut table = [0u32; 4096];
+    overheads(board, &mut table);
+    let mut i: usize = 0;
+    while i < n {
+        print_row(&table, i * n, n);
+        i += 1;
+    }
+}
+
+// A line with n words of the table, from word `from` on.
+fn print_row(table: &[u32], from: usize, n: usize)
+    requires { ⌜ from + n ≤ length (now table) ⌝ }
+{
+    io::write_all(STDOUT_FILENO, b"gamma");
+    let mut j: usize = 0;
+    while j < n {
+        print_field(wide(table[from + j]));
+        j += 1;
+    }
+    end_line();
+}
+
+fn print_last(board: &[u32])
+    requires { ⌜ Sound (now board) ⌝ }
+{
+    let n = index(tasks(board));
+    io::write_all(STDOUT_FILENO, b"last");
+    let mut j: usize = 0;
+    while j < n {
+        print_field(wide(overhead(board, n - 1, j)));
+        j += 1;
+    }
+    end_line();
+}
+
+fn print_field(x: u64) {
+    io::write_all(STDOUT_FILENO, b" ");
+    io::print_decimal(STDOUT_FILENO, x);
+}
+
+fn end_line() {
+    io::write_all(STDOUT_FILENO, b"\n");
+}
