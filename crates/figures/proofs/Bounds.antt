@@ -10,6 +10,8 @@ use Rattle.board.proofs.Sound.{traces-fit}
 use Rattle.trace.specs.Traces.{traceOf, tracePD, traceMD}
 use Rattle.trace.proofs.Bounds.{tracePD-bound, traceMD-bound}
 use Rattle.figures.specs.Figures.{taskTrace, taskPD, taskMD}
+-- the overhead's: 256 sets
+pub use Rattle.figures.proofs.Overhead.{γ-bound}
 
 module _ (b : List ℕ) (s : Sound b) (k : ℕ) (task : k < tasks b) where
   trace-short : (r : ℕ) → r < traceCount b k → taskTrace b k r .len ≤ 1024

@@ -51,7 +51,6 @@ again c =
 returns : tie.Need-returns Inv μ
 returns c =
     let at = c .before in
-    let b = now (at .before .before .before .before .args .board) in
     λ j h. at .loop .inv .4 j (omega arith)
 
 pub evicted-sets-spec : {M : Type 1} → statement M

@@ -1,0 +1,80 @@
+-- The accesses of the tasks off a core, core by core: tables of sums, and the interference on bus 3 from them.
+-- Assumes nothing.
+use Prim.Native.Nat.{ℕ, _+_, _*_, _≤_, _<_, min}
+use mathlib.Core.Bool.{Bool, true, false, not}
+use mathlib.Core.List.{List}
+use mathlib.Core.Path.{_≡_, refl, sym, ap, ap₂, subst, _∙_}
+use native.Mathlib.Decide.{ℕ-discrete}
+use native.Mathlib.Nat.{le-antisymm}
+use native.Mathlib.Omega.{arith}
+use lib.Dec.{eqb}
+use lib.ListN.{getD, set, replicate, length-set, length-replicate, getD-replicate}
+use lib.Seq.{getD-set-same, getD-set-other}
+use borrow.Author.Tests.{eq-eqb, ne-eqb}
+use Rattle.folds.specs.Folds.{when, sumTo}
+use Rattle.folds.proofs.Folds.{sumTo-none, sumTo-next, sumTo-cong}
+use Rattle.board.specs.Layout.{cores, slotsEach, core}
+use Rattle.sums.specs.Sums.{lowest, ownAccesses, carryIn, coreAccesses, interference}
+use Rattle.sums.specs.Inputs.{Holds}
+use Rattle.interference.specs.Terms.{carriedFrom}
+use Rattle.interference.proofs.Cores.{when-sum}
+
+-- ---- a table of n sums, place z having those k that stand at z + 1: no k yet, one more k, and all k below m
+
+pub table-none : (f : ℕ → ℕ → ℕ) (n : ℕ) → Holds n (λ z. sumTo (f z) 0) (replicate n 0)
+table-none f n = record { long = omega (arith, length-replicate {A = ℕ} n 0); at = λ z h. getD-replicate n z 0 0 h ∙ sym (sumTo-none (f z)) }
+
+pub table-turn : (at w : ℕ → ℕ) (n k : ℕ) {t : List ℕ} {y v : ℕ} → Holds n (λ z. sumTo (λ m. when (eqb (at m) (z + 1)) (w m)) k) t
+    → y < n → y + 1 ≡ at k → v ≡ getD t y 0 + w k → Holds n (λ z. sumTo (λ m. when (eqb (at m) (z + 1)) (w m)) (k + 1)) (set t y v)
+table-turn at w n k {t} {y} {v} h l e add =
+    record { long = omega (arith, h .long, length-set t y v); at = λ z less. sum z less (ℕ-discrete z y) ∙ sym (sumTo-next (λ m. when (eqb (at m) (z + 1)) (w m)) k) }
+  where
+    sum : (z : ℕ) → z < n → Dec (z ≡ y) → getD (set t y v) z 0 ≡ sumTo (λ m. when (eqb (at m) (z + 1)) (w m)) k + when (eqb (at k) (z + 1)) (w k)
+    sum z less (yes same) =
+        ap (λ (q : ℕ). getD (set t y v) q 0) same
+        ∙ getD-set-same t y v 0 (omega (arith, h .long))
+        ∙ add
+        ∙ ap₂ _+_ (ap (λ (q : ℕ). getD t q 0) (sym same) ∙ h .at z less) (ap (λ (s : Bool). when s (w k)) (sym (eq-eqb (at k) (z + 1) (omega arith))))
+    sum z less (no other) =
+        getD-set-other t y z v 0 other
+        ∙ h .at z less
+        ∙ omega (arith, ap (λ (s : Bool). when s (w k)) (ne-eqb (at k) (z + 1) (λ q. other (omega arith))))
+
+pub table-end : (f : ℕ → ℕ → ℕ) (n : ℕ) {t : List ℕ} {k m : ℕ} → Holds n (λ z. sumTo (f z) k) t → k ≤ m → m ≤ k → Holds n (λ z. sumTo (f z) m) t
+table-end f n {t} h p q = subst (λ (m : ℕ). Holds n (λ z. sumTo (f z) m) t) (le-antisymm p q) h
+
+-- ---- the interference
+
+when-zero : (t : Bool) → when t 0 ≡ 0
+when-zero true = refl
+when-zero false = refl
+
+when-min : (t : Bool) (v cap : ℕ) → min (when t v) cap ≡ when t (min v cap)
+when-min true v cap = refl
+when-min false v cap = omega arith
+
+-- on core y, and off core x: on core y, unless that is x
+off-core : (c x y v : ℕ) → when (eqb c y) (when (not (eqb c x)) v) ≡ when (not (eqb y x)) (when (eqb c y) v)
+off-core c x y v = go (ℕ-discrete c y)
+  where
+    go : Dec (c ≡ y) → when (eqb c y) (when (not (eqb c x)) v) ≡ when (not (eqb y x)) (when (eqb c y) v)
+    go (yes e) = rw (eq-eqb c y e) (ap (λ (z : ℕ). when (not (eqb z x)) v) e)
+    go (no n) = rw (ne-eqb c y n) (sym (when-zero (not (eqb y x))))
+
+module _ (b R : List ℕ) (i : ℕ) where
+  carriedFrom-is : (j y : ℕ) → carriedFrom b R i j y ≡ when (not (eqb y (core b i))) (coreAccesses b R i j y)
+  unfolding carriedFrom coreAccesses
+  carriedFrom-is j y =
+      sumTo-cong _ _ (j + 1) (λ k h. off-core (core b k) (core b i) y (carryIn b R i j k))
+      ∙ sym (when-sum (not (eqb y (core b i))) (λ k. when (eqb (core b k) y) (carryIn b R i j k)) (j + 1))
+
+  -- j is task n as code computes it
+  pub round-robin-is : (table : List ℕ) {j n cap : ℕ} → j ≡ lowest b → Holds 8 (λ y. carriedFrom b R i j (y + 1)) table → cores b ≤ 8 → n ≡ cores b
+      → cap ≡ slotsEach b * ownAccesses b R i → sumTo (λ y. min (getD table y 0) cap) n ≡ interference b R i 3
+  unfolding interference
+  round-robin-is table low h few e same =
+      ap₂ (λ (m c : ℕ). sumTo (λ y. min (getD table y 0) c) m) e same
+      ∙ sumTo-cong _ _ (cores b)
+      (λ y l.
+      ap (λ (v : ℕ). min v (slotsEach b * ownAccesses b R i)) (h .at y (omega arith) ∙ ap (λ (m : ℕ). carriedFrom b R i m (y + 1)) low ∙ carriedFrom-is (lowest b) (y + 1))
+      ∙ when-min (not (eqb (y + 1) (core b i))) (coreAccesses b R i (lowest b) (y + 1)) (slotsEach b * ownAccesses b R i))

@@ -1,0 +1,26 @@
+use borrow.Author.Needs.{needs}
+use native.Mathlib.Omega.{arith}
+use lib.Dec.{lit<}
+use Prim.Native.Nat.{_*_, _-_, _≤_, _^_}
+use mathlib.Core.Path.{_∙_}
+use Rattle.interference.proofs.Parts.{tdma-is}
+use Rattle.sums.proofs.Numbers.{product-bound, product-fits}
+use Rattle.interference.proofs.bus.tdma.Statement.{statement}
+use Rattle.interference.proofs.bus.tdma.Tie as tie
+
+-- at most 7 other cores and 8 slots
+few : (c : tie.After-wide2) → (c .wide2 .result - 1) * c .before .before .wide .result ≤ 7 * 8
+few c = product-bound 7 8 (omega arith) (omega arith)
+
+returns : tie.Need-returns
+returns c =
+    let s = c .before .before .before .before .before .before in
+    tdma-is _ _ _ (c .wide2 .ensures .0 ∙ c .before .cores .ensures .0)
+    (c .before .before .wide .ensures .0 ∙ c .before .before .before .slots-each .ensures .0) (s .pre .1)
+
+pub tdma-spec : {M : Type 1} → statement M
+tdma-spec =
+    tie.close
+    (tie.spec (λ c κs. search needs) (λ c κs. search needs) (λ c κs. search needs) (λ c κs. search needs) (λ c. search needs)
+    (λ c. product-fits 7 8 (omega arith) (omega arith) (lit< tt))
+    (λ c. product-fits 56 (2 ^ 46) (few c) (omega arith) (lit< tt)) returns)

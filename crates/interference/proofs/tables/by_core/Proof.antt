@@ -1,0 +1,58 @@
+use borrow.Author.Needs.{needs}
+use native.Mathlib.Omega.{arith}
+use lib.Dec.{eqb}
+use lib.ListN.{getD}
+use mathlib.Core.Path.{ap}
+use Prim.Native.Nat.{ℕ, _+_, _-_, _≤_, _<_}
+use Rattle.folds.specs.Folds.{when, sumTo}
+use Rattle.board.specs.Layout.{core}
+use Rattle.sums.specs.Inputs.{Holds}
+use Rattle.interference.specs.Terms.{carriedOff, carriedFrom}
+use Rattle.interference.proofs.ByCore.{table-none, table-turn, table-end}
+use Rattle.interference.proofs.Bounds.{carriedOff-bound, onCore-bound}
+use Rattle.interference.proofs.tables.by_core.Statement.{statement}
+use Rattle.interference.proofs.tables.by_core.Tie as tie
+
+abbrev Inv-loop : tie.InvT-loop
+Inv-loop board row times i j table₀ k₀ table k =
+    (k ≤ j + 1) × Holds 8 (λ y. sumTo (λ m. when (eqb (core board m) (y + 1)) (carriedOff board times i j m)) k) table
+
+abbrev μ-loop : tie.MeasureT-loop
+μ-loop board row times i j table₀ k₀ table k = j + 1 - k
+
+-- what task m adds to the sum at y
+abbrev term : tie.Start Inv-loop μ-loop → ℕ → ℕ → ℕ
+term s y m = when (eqb (core (s .args .board .now) m) (y + 1)) (carriedOff (s .args .board .now) (s .args .times .now) (s .args .i) (s .args .j) m)
+
+loop-holds : tie.Need-loop-holds Inv-loop μ-loop
+loop-holds c = (omega arith, table-none (term (c .before .before .before)) 8)
+
+add-table : tie.Need-add-table Inv-loop μ-loop
+add-table c =
+    let s = c .before .before .before .before .before .before .before .before in
+    let l = c .before .before .before .before .loop in
+    let y = c .before .index .result - 1 in
+    let here : y < 8 = omega arith in
+    omega (
+      arith,
+      l .inv .1 .at y here,
+      onCore-bound (s .args .board .now) (s .args .row .now) (s .args .times .now) (s .args .i) (s .args .j) (s .pre) (y + 1) (l .k) (omega arith),
+      carriedOff-bound (s .args .board .now) (s .args .row .now) (s .args .times .now) (s .args .i) (s .args .j) (s .pre) (l .k) (omega (arith, s .pre .below)),
+    )
+
+loop-again : tie.Need-loop-again Inv-loop μ-loop
+loop-again c =
+    let s = c .before .before .before .before .before .before .before .before in (
+      omega arith,
+      table-turn (λ m. core (s .args .board .now) m) (λ m. carriedOff (s .args .board .now) (s .args .times .now) (s .args .i) (s .args .j) m) 8 _
+          (c .before .before .before .before .loop .inv .1) (omega arith) (omega arith) (ap (λ (n : ℕ). getD (c .before .before .before .before .loop .table) (c .before .index .result - 1) 0 + n) (c .carry-off .ensures)),
+    )
+
+returns : tie.Need-returns Inv-loop μ-loop
+unfolding carriedFrom
+returns c = table-end (term (c .before .before .before .before .before)) 8 (c .before .loop .inv .1) (c .before .loop .inv .0) (omega arith)
+
+pub by-core-spec : {M : Type 1} → statement M
+by-core-spec =
+    tie.close
+    (tie.spec Inv-loop μ-loop loop-holds (λ c κs. search needs) (λ c κs. search needs) (λ c. search needs) (λ c. search needs) (λ c. search needs) (λ c κs. search needs) add-table (λ c. search needs) (λ c. search needs) (λ c. search needs) (λ c. search needs) loop-again returns)

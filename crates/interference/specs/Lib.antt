@@ -1,0 +1,2 @@
+-- What the sums over other cores add up.
+pub mod Terms

@@ -1,0 +1,28 @@
+-- What the loops over the tasks off a core add up: each such task is met once. The laws of proofs/BySide.antt and proofs/ByCore.antt join these
+-- to the definitions: a reader of the definitions can pass this file by.
+-- Assumes nothing.
+use Prim.Native.Nat.{ℕ, _+_}
+use mathlib.Core.Bool.{Bool, not, _&&_}
+use mathlib.Core.List.{List}
+use lib.Dec.{leb, eqb}
+use Rattle.folds.specs.Folds.{when, sumTo}
+use Rattle.board.specs.Layout.{core}
+use Rattle.sums.specs.Sums.{carryIn}
+
+-- task i at the times R
+module _ (b R : List ℕ) (i : ℕ) where
+  -- W(j, k), if task k is a or after it and its core passes the test
+  abbrev pub carriedIf : (ℕ → Bool) → ℕ → ℕ → ℕ → ℕ
+  carriedIf test j a k = when (leb a k && test (core b k)) (carryIn b R i j k)
+
+  -- over the tasks from a up to j
+  unfoldable pub carriedBy : (ℕ → Bool) → ℕ → ℕ → ℕ
+  carriedBy test j a = sumTo (carriedIf test j a) (j + 1)
+
+  -- W(j, k), if task k is off the core of task i
+  abbrev pub carriedOff : ℕ → ℕ → ℕ
+  carriedOff j k = when (not (eqb (core b k) (core b i))) (carryIn b R i j k)
+
+  -- over the tasks up to j on core y
+  unfoldable pub carriedFrom : ℕ → ℕ → ℕ
+  carriedFrom j y = sumTo (λ k. when (eqb (core b k) y) (carriedOff j k)) (j + 1)

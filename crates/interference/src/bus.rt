@@ -1,0 +1,92 @@
+// The accesses of other cores that can delay a task, by the bus.
+use crate::sides::sides;
+use crate::tables::by_core;
+use crate::tables::sum_capped;
+use board::fields::bus;
+use board::fields::cores;
+use board::fields::slots_each;
+use board::fields::tasks;
+use folds::index;
+use folds::smaller;
+use folds::wide;
+ghost use mathlib.Core.Path.{_≡_};
+ghost use Prim.Native.Nat.{_+_, _<_, _≤_, _^_};
+ghost use Rattle.board.specs.Layout as at;
+ghost use Rattle.board.specs.Sound.{Sound};
+ghost use Rattle.sums.specs.Sums as spec;
+ghost use Rattle.sums.specs.Inputs.{RowInput};
+
+// Task n.
+fn lowest(board: &[u32]) -> usize
+    requires { ⌜ Sound (now board) ⌝ }
+    ensures { λ r. ⌜ r ≡ spec.lowest (now (board .entry)) ⌝ }
+{
+    index(tasks(board)) - 1
+}
+
+// Bus 0, with s the accesses of the task's own core.
+fn fixed_priority(board: &[u32], own: &[u32], all: &[u32], times: &[u32], i: usize, s: u64) -> u64
+    requires { ⌜ RowInput (now board) (now own) (now times) i i × RowInput (now board) (now all) (now times) i (spec.lowest (now board)) ⌝ }
+    requires { ⌜ s ≡ spec.ownAccesses (now board) (now times) i ⌝ }
+    ensures { λ r. ⌜ r ≡ spec.interference (now (board .entry)) (now (times .entry)) i 0 ⌝ }
+{
+    let above = sides(board, own, times, i, i, 0);
+    let below = sides(board, all, times, i, lowest(board), i + 1);
+    above.before + above.after + smaller(s, below.before + below.after)
+}
+
+// Bus 1.
+fn processor_priority(board: &[u32], all: &[u32], times: &[u32], i: usize, s: u64) -> u64
+    requires { ⌜ RowInput (now board) (now all) (now times) i (spec.lowest (now board)) ⌝ }
+    requires { ⌜ s ≡ spec.ownAccesses (now board) (now times) i ⌝ }
+    ensures { λ r. ⌜ r ≡ spec.interference (now (board .entry)) (now (times .entry)) i 1 ⌝ }
+{
+    let others = sides(board, all, times, i, lowest(board), 0);
+    others.before + smaller(s, others.after)
+}
+
+// Bus 2.
+fn fifo(board: &[u32], all: &[u32], times: &[u32], i: usize) -> u64
+    requires { ⌜ RowInput (now board) (now all) (now times) i (spec.lowest (now board)) ⌝ }
+    ensures { λ r. ⌜ r ≡ spec.interference (now (board .entry)) (now (times .entry)) i 2 ⌝ }
+{
+    let others = sides(board, all, times, i, lowest(board), 0);
+    others.before + others.after
+}
+
+// Bus 3.
+fn round_robin(board: &[u32], all: &[u32], times: &[u32], i: usize, s: u64) -> u64
+    requires { ⌜ RowInput (now board) (now all) (now times) i (spec.lowest (now board)) × (3 ≤ at.bus (now board)) ⌝ }
+    requires { ⌜ s ≡ spec.ownAccesses (now board) (now times) i ⌝ }
+    ensures { λ r. ⌜ r ≡ spec.interference (now (board .entry)) (now (times .entry)) i 3 ⌝ }
+{
+    let v = wide(slots_each(board));
+    let others = by_core(board, all, times, i, lowest(board));
+    sum_capped(others, index(cores(board)), v * s)
+}
+
+// Bus 4.
+fn tdma(board: &[u32], times: &[u32], i: usize, s: u64) -> u64
+    requires { ⌜ (Sound (now board)) × (3 ≤ at.bus (now board)) × (s ≤ 2 ^ 46) ⌝ }
+    requires { ⌜ s ≡ spec.ownAccesses (now board) (now times) i ⌝ }
+    ensures { λ r. ⌜ r ≡ spec.interference (now (board .entry)) (now (times .entry)) i 4 ⌝ }
+{
+    let v = wide(slots_each(board));
+    (wide(cores(board)) - 1) * v * s
+}
+
+// The interference of task i, with s the accesses of its own core.
+pub fn interference(board: &[u32], own: &[u32], all: &[u32], times: &[u32], i: usize, s: u64) -> u64
+    requires { ⌜ RowInput (now board) (now own) (now times) i i × RowInput (now board) (now all) (now times) i (spec.lowest (now board)) ⌝ }
+    requires { ⌜ s ≡ spec.ownAccesses (now board) (now times) i ⌝ }
+    ensures { λ r. ⌜ r ≡ spec.interference (now (board .entry)) (now (times .entry)) i (at.bus (now (board .entry))) ⌝ }
+{
+    let rule = bus(board);
+    match rule {
+        0 => fixed_priority(board, own, all, times, i, s),
+        1 => processor_priority(board, all, times, i, s),
+        2 => fifo(board, all, times, i),
+        3 => round_robin(board, all, times, i, s),
+        _ => tdma(board, times, i, s),
+    }
+}

@@ -1,0 +1,54 @@
+// The accesses of the tasks off one core, core by core.
+use board::fields::core;
+use folds::index;
+use folds::smaller;
+use sums::carry::carry_in;
+ghost use mathlib.Core.Path.{_≡_};
+ghost use Prim.Native.Nat.{ℕ, _+_, _<_, _≤_, _^_, min};
+ghost use lib.ListN.{getD};
+ghost use Rattle.folds.specs.Folds.{sumTo};
+ghost use Rattle.board.specs.Layout as at;
+ghost use Rattle.sums.specs.Inputs.{Holds, RowInput};
+ghost use Rattle.interference.specs.Terms.{carriedOff, carriedFrom};
+
+// W(j, k), and 0 if task k is on the core of task i.
+fn carry_off(board: &[u32], row: &[u32], times: &[u32], i: usize, j: usize, k: usize) -> u64
+    requires { ⌜ RowInput (now board) (now row) (now times) i j × (k < at.tasks (now board)) ⌝ }
+    ensures { λ r. ⌜ r ≡ carriedOff (now (board .entry)) (now (times .entry)) i j k ⌝ }
+{
+    if core(board, k) == core(board, i) {
+        0
+    } else {
+        carry_in(board, row, times, i, j, k)
+    }
+}
+
+// The sums of W(j, k) over the tasks up to j off the core of task i, that of core y at y - 1.
+pub fn by_core(board: &[u32], row: &[u32], times: &[u32], i: usize, j: usize) -> [u64; 8]
+    requires { ⌜ RowInput (now board) (now row) (now times) i j ⌝ }
+    ensures { λ r. ⌜ Holds 8 (λ y. carriedFrom (now (board .entry)) (now (times .entry)) i j (y + 1)) r ⌝ }
+{
+    let mut table = [0u64; 8];
+    let mut k: usize = 0;
+    while k <= j {
+        let at = index(core(board, k)) - 1;
+        let sum = table[at];
+        table[at] = sum + carry_off(board, row, times, i, j, k);
+        k += 1;
+    }
+    table
+}
+
+// The sum of the first n sums, each at most cap.
+pub fn sum_capped(table: [u64; 8], n: usize, cap: u64) -> u64
+    requires { ⌜ (n ≤ 8) × ((y : ℕ) → y < 8 → getD table y 0 ≤ 2 ^ 50) ⌝ }
+    ensures { λ r. ⌜ r ≡ sumTo (λ y. min (getD table y 0) cap) n ⌝ }
+{
+    let mut sum: u64 = 0;
+    let mut y: usize = 0;
+    while y < n {
+        sum += smaller(table[y], cap);
+        y += 1;
+    }
+    sum
+}

@@ -1,0 +1,169 @@
+-- A task's sum is below 2^64 on every board that passes its checks, at times of at most D + 1, on every bus and with every refresh.
+-- Assumes nothing.
+use Prim.Native.Nat.{ℕ, zero, suc, _+_, _-_, _*_, _/_, _^_, _≤_, _<_, min}
+use mathlib.Core.Bool.{Bool, not}
+use mathlib.Core.List.{List}
+use mathlib.Core.Path.{_≡_, ap}
+use native.Mathlib.Nat.{le-trans, le-refl, mul-div-cancel, mul-le-mul}
+use native.Mathlib.Omega.{arith}
+use lib.Dec.{eqb, ltb}
+use lib.ListN.{getD}
+use Rattle.folds.specs.Folds.{ceilDiv, sumTo, sumWhere}
+use Rattle.folds.proofs.Numbers.{ceilDiv-self}
+use Rattle.folds.proofs.Folds.{sumWhere-bound}
+use Rattle.board.specs.Layout.{cores, tasks, bus, slotsEach, slots, accessCycles, refresh, refreshInterval, refreshRows, refreshCycles, core, period, deadline}
+use Rattle.board.specs.Sound.{Sound}
+use Rattle.figures.specs.Figures.{taskPD}
+use Rattle.figures.proofs.Overhead.{γ-bound}
+use Rattle.figures.proofs.Bounds.{taskPD-bound, taskMD-bound}
+use Rattle.sums.specs.Sums.{lowest, bound, releases, memoryDemand, overCores, window, ownAccesses, carryIn, coreAccesses, interference, busAccesses, refreshes, higherWork, taskSum}
+use Rattle.sums.specs.Inputs.{RowInput, releaseCost}
+use Rattle.sums.proofs.Rising.{carry-mono}
+use Rattle.sums.proofs.Printed.{taskSum-printed}
+
+-- a sum of at most l terms
+pub where-bound : (n l m : ℕ) (test : ℕ → Bool) (f : ℕ → ℕ) → n ≤ l → ((k : ℕ) → k < n → f k ≤ m) → sumWhere test f n ≤ l * m
+where-bound n l m test f h all = le-trans (sumWhere-bound test f n m all) (mul-le-mul h (le-refl m))
+
+-- D'(j, k): MD of 1,024 instructions, and the reloads of 256 sets
+pub demand-bound : (b : List ℕ) → Sound b → (j k : ℕ) → k < tasks b → memoryDemand b j k ≤ 2 ^ 12
+unfolding memoryDemand
+demand-bound b s j k h = omega (arith, taskMD-bound b s k h, γ-bound b j k)
+
+pub work-bound : (b : List ℕ) → Sound b → (k : ℕ) → k < tasks b → taskPD b k ≤ 2 ^ 22
+work-bound b s k h = omega (arith, taskPD-bound b s k h)
+
+-- D + 1
+pub time-bound : (b R : List ℕ) → Sound b → ((k : ℕ) → k < tasks b → getD R k 0 ≤ bound b k + 1) → (k : ℕ) → k < tasks b → getD R k 0 ≤ 2 ^ 28
+time-bound b R s short k h = omega (arith, short k h, s .deadline k h .1, s .period k h .1)
+
+module _ (b R : List ℕ) (s : Sound b) (short : (k : ℕ) → k < tasks b → getD R k 0 ≤ bound b k + 1) (i : ℕ) (task : i < tasks b) where
+  abbrev late : (k : ℕ) → k < tasks b → getD R k 0 ≤ 2 ^ 28
+  late k h = time-bound b R s short k h
+
+  pub releases-bound : (k : ℕ) → releases b i k (getD R i 0) ≤ 2 ^ 28
+  releases-bound k = le-trans (ceilDiv-self (getD R i 0) (period b k)) (late i task)
+
+  pub ownAccesses-bound : ownAccesses b R i ≤ 64 * (2 ^ 28 * 2 ^ 12)
+  unfolding ownAccesses
+  ownAccesses-bound =
+      where-bound _ 64 (2 ^ 28 * 2 ^ 12) (λ k. eqb (core b k) (core b i)) _ (omega (arith, s .tasks .1))
+      (λ k h. mul-le-mul (releases-bound k) (demand-bound b s i k (omega arith)))
+
+  -- W rises with its window, which is at most 2^29 periods
+  pub carryIn-bound : (j k : ℕ) → k < tasks b → carryIn b R i j k ≤ 2 ^ 12 * 2 ^ 29 + 2 ^ 12
+  unfolding carryIn
+  carryIn-bound j k h =
+      let m = memoryDemand b j k in
+      let T = period b k in
+      let most : 2 ^ 29 * T / T ≡ 2 ^ 29 = mul-div-cancel (2 ^ 29) (s .period k h .0) in
+      omega (
+        arith,
+        carry-mono m T (accessCycles b) (window b R i j k) (2 ^ 29 * T) (omega (arith, late i task, late k h, s .period k h .0)),
+        ap (λ (q : ℕ). m * q) most,
+        demand-bound b s j k h,
+      )
+
+  coreAccesses-bound : (j y : ℕ) → j < tasks b → coreAccesses b R i j y ≤ 64 * (2 ^ 12 * 2 ^ 29 + 2 ^ 12)
+  unfolding coreAccesses
+  coreAccesses-bound j y h =
+      where-bound (j + 1) 64 (2 ^ 12 * 2 ^ 29 + 2 ^ 12) (λ k. eqb (core b k) y) _ (omega (arith, s .tasks .1)) (λ k l. carryIn-bound j k (omega arith))
+
+  -- a sum over cores of what is at most A's bound
+  overCores-bound : (test : ℕ → Bool) (f : ℕ → ℕ) → ((y : ℕ) → f y ≤ 64 * (2 ^ 12 * 2 ^ 29 + 2 ^ 12))
+      → overCores b test f ≤ 8 * (64 * (2 ^ 12 * 2 ^ 29 + 2 ^ 12))
+  overCores-bound test f all =
+      where-bound (cores b) 8 (64 * (2 ^ 12 * 2 ^ 29 + 2 ^ 12)) (λ y. test (y + 1)) _ (s .cores .1) (λ y h. all (y + 1))
+
+  everyone-bound : (y : ℕ) → coreAccesses b R i (lowest b) y ≤ 64 * (2 ^ 12 * 2 ^ 29 + 2 ^ 12)
+  everyone-bound y = coreAccesses-bound (lowest b) y (omega arith)
+
+  pub slots-bound : slotsEach b ≤ 8
+  slots-bound = go (bus b) (s .slots) (s .noSlots)
+    where
+      go : (c : ℕ) → (3 ≤ c → (1 ≤ slotsEach b) × (slotsEach b ≤ 8)) → (c < 3 → slotsEach b ≡ 0) → slotsEach b ≤ 8
+      go zero some none = omega (arith, none (omega arith))
+      go (suc zero) some none = omega (arith, none (omega arith))
+      go (suc (suc zero)) some none = omega (arith, none (omega arith))
+      go (suc (suc (suc c))) some none = some (omega arith) .1
+
+  pub interference-bound : (c : ℕ) → interference b R i c ≤ 2 ^ 52
+  unfolding interference
+  interference-bound zero =
+      omega (
+        arith,
+        ownAccesses-bound,
+        overCores-bound (λ y. not (eqb y (core b i))) (λ y. coreAccesses b R i i y) (λ y. coreAccesses-bound i y task),
+      )
+  interference-bound (suc zero) =
+      omega (
+        arith,
+        ownAccesses-bound,
+        overCores-bound (λ y. ltb y (core b i)) (λ y. coreAccesses b R i (lowest b) y) everyone-bound,
+      )
+  interference-bound (suc (suc zero)) =
+      omega (arith, overCores-bound (λ y. not (eqb y (core b i))) (λ y. coreAccesses b R i (lowest b) y) everyone-bound)
+  interference-bound (suc (suc (suc zero))) =
+      omega (
+        arith,
+        overCores-bound (λ y. not (eqb y (core b i))) (λ y. min (coreAccesses b R i (lowest b) y) (slots b y * ownAccesses b R i))
+            (λ y. omega (arith, everyone-bound y)),
+      )
+  interference-bound (suc (suc (suc (suc c)))) =
+      omega (
+        arith,
+        mul-le-mul {n₁ = (cores b - 1) * slotsEach b} {m₁ = ownAccesses b R i} {n₂ = 7 * 8} {m₂ = 64 * (2 ^ 28 * 2 ^ 12)}
+            (mul-le-mul {n₁ = cores b - 1} {m₁ = slotsEach b} {n₂ = 7} {m₂ = 8} (omega (arith, s .cores .1)) slots-bound) ownAccesses-bound,
+      )
+
+  pub busAccesses-bound : busAccesses b R i ≤ 2 ^ 53
+  unfolding busAccesses
+  busAccesses-bound = omega (arith, ownAccesses-bound, interference-bound (bus b))
+
+  pub rows-bound : refreshRows b ≤ 65535
+  rows-bound = go (refresh b) (s .rows) (s .noRefresh)
+    where
+      go : (c : ℕ) → (1 ≤ c → (1 ≤ refreshRows b) × (refreshRows b ≤ 65535))
+          → (c < 1 → (refreshInterval b ≡ 0) × (refreshRows b ≡ 0) × (refreshCycles b ≡ 0)) → refreshRows b ≤ 65535
+      go zero some none = omega (arith, none (omega arith) .1)
+      go (suc c) some none = some (omega arith) .1
+
+  pub refreshes-bound : (c : ℕ) → refreshes b R i c ≤ 2 ^ 53
+  unfolding refreshes
+  refreshes-bound zero = omega arith
+  refreshes-bound (suc zero) =
+      omega (
+        arith,
+        mul-le-mul {n₁ = ceilDiv (getD R i 0) (refreshInterval b)} {m₁ = refreshRows b} {n₂ = 2 ^ 28} {m₂ = 65535}
+            (le-trans (ceilDiv-self (getD R i 0) (refreshInterval b)) (late i task)) rows-bound,
+      )
+  refreshes-bound (suc (suc c)) = omega (arith, busAccesses-bound)
+
+  pub higherWork-bound : higherWork b R i ≤ 64 * (2 ^ 28 * 2 ^ 22)
+  unfolding higherWork
+  higherWork-bound =
+      where-bound i 64 (2 ^ 28 * 2 ^ 22) (λ k. eqb (core b k) (core b i)) _ (omega (arith, s .tasks .1))
+      (λ k h. mul-le-mul (releases-bound k) (work-bound b s k (omega arith)))
+
+  -- what is added up on the way
+  pub releaseCost-bound : (cost : ℕ → ℕ) (m k : ℕ) → ((j : ℕ) → j < tasks b → cost j ≤ m) → k ≤ i → sumTo (releaseCost b R i cost) k ≤ 64 * (2 ^ 28 * m)
+  releaseCost-bound cost m k few h =
+      where-bound k 64 (2 ^ 28 * m) (λ j. eqb (core b j) (core b i)) _ (omega (arith, s .tasks .1)) (λ j l. mul-le-mul (releases-bound j) (few j (omega arith)))
+
+  pub taskSum-bound : taskSum b R i < 2 ^ 64
+  taskSum-bound =
+      omega (
+        arith,
+        taskSum-printed b R i,
+        work-bound b s i task,
+        higherWork-bound,
+        mul-le-mul {n₁ = busAccesses b R i} {m₁ = accessCycles b} {n₂ = 2 ^ 53} {m₂ = 255} busAccesses-bound (s .access .1),
+        mul-le-mul {n₁ = refreshes b R i (refresh b)} {m₁ = refreshCycles b} {n₂ = 2 ^ 53} {m₂ = 255} (refreshes-bound (refresh b)) (s .refreshCycles),
+      )
+
+module _ (b row R : List ℕ) (i j : ℕ) (h : RowInput b row R i j) where
+  pub carry-bound : (k : ℕ) → k < tasks b → carryIn b R i j k ≤ 2 ^ 42
+  carry-bound k l = omega (arith, carryIn-bound b R (h .sound) (h .times .short) i (h .task) j k l)
+
+  pub own-bound : ownAccesses b R i ≤ 2 ^ 46
+  own-bound = omega (arith, ownAccesses-bound b R (h .sound) (h .times .short) i (h .task))

@@ -1,0 +1,9 @@
+-- The laws of a task's sum.
+pub mod Rising
+pub mod Printed
+pub mod Numbers
+pub mod Windows
+pub mod Releases
+pub mod Refreshes
+pub mod Bounds
+pub mod Inputs

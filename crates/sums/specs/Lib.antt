@@ -1,0 +1,3 @@
+-- A task's sum.
+pub mod Sums
+pub mod Inputs

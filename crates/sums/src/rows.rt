@@ -1,0 +1,34 @@
+// One accessor a list: the number of task k, with its range.
+use folds::wide;
+ghost use mathlib.Core.Path.{_≡_};
+ghost use Prim.Native.Nat.{_<_, _≤_, _^_};
+ghost use lib.ListN.{getD};
+ghost use Rattle.board.specs.Layout as at;
+ghost use Rattle.board.specs.Sound.{Sound};
+ghost use Rattle.figures.specs.Figures.{taskPD};
+ghost use Rattle.sums.specs.Sums.{memoryDemand};
+ghost use Rattle.sums.specs.Inputs.{Holds, Times};
+
+// PD of task k.
+pub fn work(board: &[u32], pd: &[u32], k: usize) -> u64
+    requires { ⌜ (Sound (now board)) × Holds (at.tasks (now board)) (taskPD (now board)) (now pd) × (k < at.tasks (now board)) ⌝ }
+    ensures { λ r. ⌜ (r ≡ taskPD (now (board .entry)) k) × (r ≤ 2 ^ 22) ⌝ }
+{
+    wide(pd[k])
+}
+
+// D'(j, k), from the row of j.
+pub fn demand(board: &[u32], row: &[u32], j: usize, k: usize) -> u64
+    requires { ⌜ (Sound (now board)) × Holds (at.tasks (now board)) (memoryDemand (now board) j) (now row) × (k < at.tasks (now board)) ⌝ }
+    ensures { λ r. ⌜ (r ≡ memoryDemand (now (board .entry)) j k) × (r ≤ 2 ^ 12) ⌝ }
+{
+    wide(row[k])
+}
+
+// The time of task k.
+pub fn time(board: &[u32], times: &[u32], k: usize) -> u64
+    requires { ⌜ (Sound (now board)) × Times (now board) (now times) × (k < at.tasks (now board)) ⌝ }
+    ensures { λ r. ⌜ (r ≡ getD (now (times .entry)) k 0) × (r ≤ 2 ^ 28) ⌝ }
+{
+    wide(times[k])
+}
