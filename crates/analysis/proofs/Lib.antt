@@ -1,0 +1,8 @@
+-- Demand 3 of the definitions, and what the proofs of the calls share.
+pub mod Demand
+pub mod Table
+pub mod Outcomes
+pub mod Concluded
+pub mod Steps
+pub mod Filling
+pub mod Shell

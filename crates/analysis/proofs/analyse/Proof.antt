@@ -1,0 +1,52 @@
+-- `analysis::analyse` meets its contract: it is a call that fills the figures table, over `records` and `settle` (`Shell.antt`).
+-- Demand 3 follows from the answer and the times.
+-- Assumes nothing.
+use Prim.Native.Nat.{ℕ}
+use mathlib.Core.List.{List}
+use mathlib.Core.Path.{_≡_}
+use lib.ListN.{length}
+use contract.Running.{givenOf, tables, tablesOf}
+use denote.Enum.Laws as EL
+use denote.Triple.Spec.{tripleOf}
+use denote.Triple.Table.{entered, cited}
+use Rattle.figures.proofs.fill.Symbol as fill-def
+use Rattle.figures.proofs.fill.Symbol.{name as #figures·fill}
+use Rattle.figures.proofs.fill.Met as fill-thm
+use Rattle.board.specs.Layout.{passLimit}
+use Rattle.board.specs.declared.Verdict.the-variants.{Passed}
+use Rattle.analysis.specs.Refusals.{analyseRefusal}
+use Rattle.analysis.specs.Answers.{system, analyseAnswer, timesAfter}
+use Rattle.analysis.specs.Demand.{Demand3}
+use Rattle.analysis.specs.declared.Answer.{Answer}
+use Rattle.analysis.proofs.Demand.{demand3-met}
+use Rattle.analysis.proofs.Filling.{Fills}
+use Rattle.analysis.proofs.Answer as S
+use Rattle.analysis.proofs.Answer.Laws as S′
+use Rattle.analysis.proofs.Shell.{Counts, Rests, meets}
+use Rattle.analysis.proofs.records.Symbol as records-def
+use Rattle.analysis.proofs.records.Symbol.{name as #analysis·records}
+use Rattle.analysis.proofs.records.Met as records-thm
+use Rattle.analysis.proofs.settle.Symbol as settle-def
+use Rattle.analysis.proofs.settle.Symbol.{name as #analysis·settle}
+use Rattle.analysis.proofs.settle.Met as settle-thm
+use Rattle.analysis.proofs.analyse.Key.{name as #analysis·analyse}
+use Rattle.analysis.proofs.analyse as analyse
+use Rattle.analysis.proofs.analyse.Statement as stated
+use Rattle.analysis.proofs.analyse.Code as code
+
+-- demand 3, of every call that is not refused
+abbrev Claim : List ℕ → List ℕ → ℕ → ℕ → Answer → List ℕ → Type 0
+Claim b old scratch table r new = analyseRefusal b (length old) scratch table ≡ Passed → Demand3 (system b) (passLimit b) r new
+
+pub analyse-spec : {M : Type 1} → stated.statement M
+unfolding code.routine tablesOf
+analyse-spec 𝓤 H 𝓜 𝓖 𝓡 =
+    entered 𝓤 H (tripleOf 𝓤 H (𝓖 .A) analyse.signature (analyse.spec 𝓤 H (𝓖 .A) (𝓜 .mem) (𝓡 .run)))
+    (tables 𝓤 H 𝓜 𝓡 code.env .C) (tables 𝓤 H 𝓜 𝓡 code.env .Λ) #analysis·analyse code.function (code.unfolded 𝓤 H 𝓜 𝓡)
+    (meets S.the-row analyseRefusal analyseAnswer timesAfter Claim S′.mir (λ r u is. EL.lawful S.the-type S′.the-laws 𝓤 H (𝓖 .A) (givenOf 𝓤 H 𝓜 𝓖) tt .typed r _ is .0) #analysis·records #analysis·settle
+    (λ b old scratch table r new e h passed. demand3-met b old scratch table passed r new e h) 𝓤 H (𝓖 .A) (givenOf 𝓤 H 𝓜 𝓖) (𝓜 .mem) (𝓡 .run) (tablesOf 𝓤 H 𝓜 (tables 𝓤 H 𝓜 𝓡 code.env))
+    (cited 𝓤 H (Counts S.the-row analyseRefusal analyseAnswer timesAfter Claim 𝓤 H (𝓖 .A)) 𝓜 𝓡
+    code.env #analysis·records records-def.routine code.calls-analysis·records (records-thm.met 𝓤 H 𝓜 𝓖 𝓡))
+    (cited 𝓤 H (Fills 𝓤 H (𝓖 .A) (𝓜 .mem) (𝓡 .run)) 𝓜 𝓡 code.env #figures·fill fill-def.routine code.calls-figures·fill (fill-thm.met 𝓤 H 𝓜 𝓖 𝓡))
+    (cited 𝓤 H (Rests S.the-row analyseRefusal analyseAnswer timesAfter Claim 𝓤 H (𝓖 .A)) 𝓜 𝓡
+    code.env #analysis·settle settle-def.routine code.calls-analysis·settle (settle-thm.met 𝓤 H 𝓜 𝓖 𝓡)))

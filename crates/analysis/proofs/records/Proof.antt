@@ -1,0 +1,32 @@
+-- `analysis::records` meets its contract.
+-- Assumes nothing.
+use mathlib.Core.Path.{_≡_, sym, _∙_}
+use borrow.Author.Needs.{needs}
+use Rattle.board.specs.declared.Verdict.the-variants.{Passed}
+use Rattle.calls.proofs.Accepted.{analyse-taken}
+use Rattle.analysis.specs.Refusals.{analyseRefusal}
+use Rattle.analysis.proofs.Outcomes.{fills-tasks, fills-none}
+use Rattle.analysis.proofs.records.Statement.{statement}
+use Rattle.analysis.proofs.records.Tie as tie
+
+-- where nothing is refused
+abbrev Taken : Type 0
+Taken = tie.After-enum-told
+
+passed : (t : Taken) → let a = t .before .before .before .before .args in analyseRefusal (a .board .now) (a .times) (a .scratch) (a .room) ≡ Passed
+passed t = sym (t .before .before .check-analyse .ensures) ∙ t .enum-told .given .1
+
+pub records-spec : {M : Type 1} → statement M
+records-spec =
+    tie.close
+    (tie.spec
+    (λ c κs. search needs)
+    (λ c. search needs)
+    (λ c κs. analyse-taken _ _ _ _ (passed c) .analysable .sound)
+    (λ c κs. search needs)
+    (λ c. search needs)
+    (λ c.
+    let t = c .before .before in
+    let taken = analyse-taken _ _ _ _ (passed t) in
+    fills-tasks (passed t) (taken .analysable .sound) (taken .table) (c .index .ensures .0 ∙ c .before .tasks .ensures .0))
+    (λ c. fills-none (sym (c .before .before .check-analyse .ensures) ∙ c .enum-told2 .given .1)))

@@ -1,0 +1,25 @@
+-- `analysis::taken::sum` meets its contract.
+-- Assumes nothing.
+use mathlib.Core.Path.{_∙_}
+use native.Mathlib.Omega.{arith}
+use borrow.Author.Needs.{needs}
+use Rattle.analysis.proofs.Outcomes.{room-for, most-words}
+use Rattle.analysis.proofs.taken.sum.Statement.{statement}
+use Rattle.analysis.proofs.taken.sum.Tie as tie
+
+pub sum-spec : {M : Type 1} → statement M
+sum-spec =
+    tie.close
+    (tie.spec
+    (λ c κs. search needs)
+    (λ c κs. search needs)
+    (λ c. search needs)
+    (λ c κs.
+    let s = c .before .before .before .before .before in
+    room-for _ (s .pre .sound) (c .before .index .ensures .0 ∙ c .before .before .tasks .ensures .0) (most-words (s .pre .sound)))
+    (λ c. search needs)
+    (λ c. search needs)
+    (λ c κs.
+    let s = c .before .before .before .before .before .before .before .before in
+    (c .before .before .prepare .ensures .0, s .pre .times, omega arith))
+    (λ c. search needs))

@@ -1,0 +1,77 @@
+-- What each call answers, and what it leaves in each lent buffer, for every input.
+-- Assumes nothing.
+use Prim.Native.Nat.{ℕ, _+_, _-_}
+use mathlib.Core.Bool.{cond}
+use mathlib.Core.List.{List}
+use mathlib.Core.Path.{_≡_}
+use lib.Dec.{ltb}
+use lib.ListN.{length, getD}
+use Rattle.folds.specs.Folds.{fillTo}
+use Rattle.board.specs.Layout.{tasks, passLimit}
+use Rattle.board.specs.declared.Verdict.{Verdict}
+use Rattle.board.specs.declared.Verdict.the-variants.{Passed, Refused as Verdict·Refused}
+use Rattle.figures.specs.declared.Figure.{Figure}
+use Rattle.figures.specs.Figures.{figureOf}
+use Rattle.figures.specs.Overhead.{γ}
+use Rattle.sums.specs.Sums.{taskSum}
+use Rattle.passes.specs.Passes.{System, passesNeeded, settled, firstLate}
+-- the passes of a board
+pub use Rattle.settling.specs.System.{system}
+use Rattle.analysis.specs.Refusals.{figuresRefusal, overheadRefusal, weighRefusal, analyseRefusal}
+use Rattle.analysis.specs.declared.Answer.{Answer}
+use Rattle.analysis.specs.declared.Answer.the-variants.{Times, Late, Spent, Refused}
+use Rattle.analysis.specs.declared.Outcome.{Outcome}
+use Rattle.analysis.specs.declared.Outcome.the-variants.{Value, Refused as Outcome·Refused}
+
+-- ---- Figures, Overhead, Weigh: the value, unless refused
+
+abbrev pub unlessRefused : Verdict → ℕ → Outcome
+unlessRefused Passed value = Value value
+unlessRefused (Verdict·Refused number place) value = Outcome·Refused number place
+
+-- Figures, with a table of this many records: the number of records filled
+unfoldable pub figuresAnswer : List ℕ → ℕ → Outcome
+figuresAnswer b table = unlessRefused (figuresRefusal b table) (tasks b)
+
+-- Overhead: γ(i, j)
+unfoldable pub overheadAnswer : List ℕ → ℕ → ℕ → Outcome
+overheadAnswer b i j = unlessRefused (overheadRefusal b i j) (γ b (i - 1) (j - 1))
+
+-- Weigh: Sum_i
+unfoldable pub weighAnswer : List ℕ → List ℕ → ℕ → Outcome
+weighAnswer b R i = unlessRefused (weighRefusal b R i) (taskSum b R (i - 1))
+
+-- ---- Analyse
+
+-- times, late or spent: of a board that passes the checks
+unfoldable pub settledAnswer : System → ℕ → Answer
+settledAnswer S limit =
+    cond (ltb limit (passesNeeded S)) Spent
+    (cond (ltb (firstLate S (settled S)) (S .count)) (Late (firstLate S (settled S) + 1) (passesNeeded S)) (Times (passesNeeded S)))
+
+abbrev pub answerBy : Verdict → List ℕ → Answer
+answerBy Passed b = settledAnswer (system b) (passLimit b)
+answerBy (Verdict·Refused number place) b = Refused number place
+
+-- Analyse, with buffers of these lengths
+unfoldable pub analyseAnswer : List ℕ → ℕ → ℕ → ℕ → Answer
+analyseAnswer b times scratch table = answerBy (analyseRefusal b times scratch table) b
+
+-- ---- lent buffers afterwards
+
+-- the times buffer, which was `old`, after Analyse answered r: the settled times are its first n words where the answer is times
+unfoldable pub timesAfter : List ℕ → Answer → List ℕ → List ℕ
+timesAfter b (Times passes) old = fillTo (λ k. getD (settled (system b)) k 0) (tasks b) old
+timesAfter b (Late task passes) old = old
+timesAfter b Spent old = old
+timesAfter b (Refused number place) old = old
+
+-- the figures table after Figures or Analyse: its first n records are the figures, unless refused
+unfoldable pub tableAfter : List ℕ → Verdict → List Figure → List Figure
+tableAfter b Passed old = fillTo (figureOf b) (tasks b) old
+tableAfter b (Verdict·Refused number place) old = old
+
+-- the scratch after Analyse: as it was when refused, and else anything of that length
+abbrev pub ScratchAfter : Verdict → List ℕ → List ℕ → Type 0
+ScratchAfter Passed old new = length new ≡ length old
+ScratchAfter (Verdict·Refused number place) old new = new ≡ old

@@ -1,0 +1,52 @@
+// What a call does once it is not refused.
+use crate::Answer;
+use folds::index;
+use settling::Passes;
+ghost use mathlib.Core.Path.{_≡_};
+ghost use Prim.Native.Nat.{_-_, _≤_};
+ghost use lib.ListN.{length};
+ghost use Rattle.sums.specs.Sums.{taskSum};
+ghost use Rattle.scratch.specs.Scratch.{Prepared};
+ghost use Rattle.calls.specs.Accepted.{WeighTaken, Analysable};
+ghost use Rattle.analysis.specs.Concluded.{Concluded};
+
+// The passes and the answer, over a prepared scratch.
+fn conclude(board: &[u32], n: usize, times: &mut [u32], scratch: &mut [u32]) -> Answer
+    requires { ⌜ (Prepared (now board) n (now scratch)) × (n ≤ length (now times)) ⌝ }
+    ensures { λ r. ⌜ Concluded (now (board .entry)) (now (times .entry)) (now (scratch .entry)) r (now (times .exit)) (now (scratch .exit)) ⌝ }
+{
+    let limit = board::fields::pass_limit(board);
+    match settling::run(board, n, limit, scratch) {
+        Passes::Over => Answer::Spent,
+        Passes::Needed(passes) => {
+            let late = late::deliver(board, n, &scratch[..n], times);
+            if late < n {
+                let number = late as u32 + 1;
+                Answer::Late(number, passes)
+            } else {
+                Answer::Times(passes)
+            }
+        }
+    }
+}
+
+// The answer of `analyse`, with the settled times in the buffer where they are the answer.
+pub fn answer(board: &[u32], times: &mut [u32], scratch: &mut [u32]) -> Answer
+    requires { ⌜ Analysable (now board) (length (now times)) (length (now scratch)) ⌝ }
+    ensures { λ r. ⌜ Concluded (now (board .entry)) (now (times .entry)) (now (scratch .entry)) r (now (times .exit)) (now (scratch .exit)) ⌝ }
+{
+    let n = index(board::fields::tasks(board));
+    scratch::prepare(board, n, scratch);
+    conclude(board, n, times, scratch)
+}
+
+// The sum of task i, a number from 1, at the times.
+pub fn sum(board: &[u32], times: &[u32], i: usize) -> u64
+    requires { ⌜ WeighTaken (now board) (now times) i ⌝ }
+    ensures { λ r. ⌜ r ≡ taskSum (now (board .entry)) (now (times .entry)) (i - 1) ⌝ }
+{
+    let n = index(board::fields::tasks(board));
+    let mut words = [0u32; 4352];
+    scratch::prepare(board, n, &mut words);
+    scratch::sum_of(board, n, &words, times, i - 1)
+}

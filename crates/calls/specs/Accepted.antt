@@ -1,0 +1,31 @@
+-- What is known where a call is not refused; the laws in proofs/Accepted.antt derive it.
+-- Assumes nothing.
+use Prim.Native.Nat.{ℕ, _+_, _*_, _≤_}
+use mathlib.Core.List.{List}
+use Rattle.board.specs.Layout as at
+use Rattle.board.specs.Sound.{Between, Sound}
+use Rattle.sums.specs.Inputs.{Times}
+
+pub record FiguresTaken (b : List ℕ) (room : ℕ) : Type 0 where
+  pub sound : Sound b
+  pub table : at.tasks b ≤ room
+
+pub record OverheadTaken (b : List ℕ) (i j : ℕ) : Type 0 where
+  pub sound : Sound b
+  pub first : Between 1 (at.tasks b) i
+  pub second : Between 1 (at.tasks b) j
+
+pub record WeighTaken (b R : List ℕ) (i : ℕ) : Type 0 where
+  pub sound : Sound b
+  pub task : Between 1 (at.tasks b) i
+  pub times : Times b R
+
+-- the board passes, and the buffers of words are long enough
+pub record Analysable (b : List ℕ) (times scratch : ℕ) : Type 0 where
+  pub sound : Sound b
+  pub timesRoom : at.tasks b ≤ times
+  pub scratchRoom : at.tasks b * at.tasks b + 4 * at.tasks b ≤ scratch
+
+pub record AnalyseTaken (b : List ℕ) (times scratch room : ℕ) : Type 0 where
+  pub analysable : Analysable b times scratch
+  pub table : at.tasks b ≤ room

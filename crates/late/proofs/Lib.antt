@@ -1,0 +1,2 @@
+-- Laws of what is delivered.
+pub mod Delivered

@@ -1,0 +1,2 @@
+-- The settled times for the caller.
+pub mod Delivered

@@ -1,0 +1,4 @@
+-- Laws of the word scratch.
+pub mod Filled
+pub mod Stored
+pub mod Prepared

@@ -1,0 +1,3 @@
+-- The word scratch.
+pub mod Stored
+pub mod Scratch

@@ -1,0 +1,5 @@
+-- Laws of a board's passes.
+pub mod Sums
+pub mod Halves
+pub mod Ends
+pub mod Underway

@@ -1,0 +1,12 @@
+-- The passes of a board ascend.
+-- Assumes nothing.
+use Prim.Native.Nat.{ℕ}
+use mathlib.Core.List.{List}
+use Rattle.sums.proofs.Rising.{taskSum-mono}
+use Rattle.passes.specs.Passes.{pass}
+use Rattle.passes.proofs.Ascending.{Ascending, pass-ascending}
+use Rattle.settling.specs.System.{system}
+
+-- the sums of a board never fall when times rise
+pub system-ascending : (b : List ℕ) → Ascending (system b) (pass (system b))
+system-ascending b = pass-ascending (system b) (λ R R' le i task. taskSum-mono b R R' le i task)

@@ -1,0 +1,47 @@
+-- `settling::pass::make_pass` meets its contract: the times and the figures stay while the next times are stored.
+-- Assumes nothing.
+use Prim.Native.Nat.{ℕ, _-_, _≤_}
+use mathlib.Core.List.{List}
+use mathlib.Core.Path.{ap, _∙_}
+use native.Mathlib.Omega.{arith}
+use lib.ListN.{take}
+use borrow.Author.Needs.{needs}
+use Rattle.passes.specs.Passes.{capped}
+use Rattle.scratch.specs.Stored.{Stored}
+use Rattle.scratch.proofs.Stored.{stored-none, stored-next, stored-all}
+use Rattle.settling.specs.System.{system}
+use Rattle.settling.proofs.Halves.{startable-stored, times-kept}
+use Rattle.settling.proofs.pass.make_pass.Statement.{statement}
+use Rattle.settling.proofs.pass.make_pass.Tie as tie
+
+abbrev Inv-loop : tie.InvT-loop
+Inv-loop board n scratch₀ i₀ scratch i = (i ≤ n) × Stored (capped (system board) (take n scratch₀)) n i scratch₀ scratch
+
+abbrev μ-loop : tie.MeasureT-loop
+μ-loop board n scratch₀ i₀ scratch i = n - i
+
+pub make-pass-spec : {M : Type 1} → statement M
+make-pass-spec =
+    tie.close
+    (tie.spec
+    Inv-loop
+    μ-loop
+    (λ c. (omega arith, stored-none _ _ _))
+    (λ c κs.
+    let l = c .before .before .loop in
+    (startable-stored (c .before .before .before .before .before .pre) (l .inv .1) (l .inv .0), omega arith))
+    (λ c. search needs)
+    (λ c. search needs)
+    (λ c. search needs)
+    (λ c. search needs)
+    (λ c. search needs)
+    (λ c.
+    let s = c .before .before .before .before .before .before in
+    let l = c .before .before .before .loop in (
+      omega arith,
+      stored-next _ _ _ (l .inv .1) (omega arith)
+          (c .next-time .ensures
+          ∙ ap (λ (R : List ℕ). capped (system (s .args .board .now)) R (l .i)) (times-kept (s .pre) (l .inv .1))),
+    ))
+    (λ c. search needs)
+    (λ c. let l = c .before .loop in stored-all _ _ _ (l .inv .1) (l .inv .0) (omega arith)))

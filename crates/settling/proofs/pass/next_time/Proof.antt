@@ -1,0 +1,26 @@
+-- `settling::pass::next_time` meets its contract.
+-- Assumes nothing.
+use Prim.Native.Nat.{ℕ, _+_, min}
+use mathlib.Core.Path.{sym, ap, ap₂, _∙_}
+use native.Mathlib.Omega.{arith}
+use lib.Seq.{length-take-le}
+use borrow.Author.Needs.{needs}
+use Rattle.settling.proofs.Halves.{startable-times}
+use Rattle.settling.proofs.pass.next_time.Statement.{statement}
+use Rattle.settling.proofs.pass.next_time.Tie as tie
+
+pub next-time-spec : {M : Type 1} → statement M
+next-time-spec =
+    tie.close
+    (tie.spec
+    (λ c. sym (length-take-le _ _ (omega arith)))
+    (λ c κs. let start = c .before .before .before in (start .pre .0 .prepared, startable-times (start .pre .0), start .pre .1))
+    (λ c κs. search needs)
+    (λ c. search needs)
+    (λ c κs. search needs)
+    (λ c κs. search needs)
+    (λ c. search needs)
+    (λ c.
+    c .smaller .ensures
+    ∙ ap₂ min (c .before .before .before .sum-of .ensures)
+    (c .before .wide .ensures .0 ∙ ap (λ (d : ℕ). d + 1) (c .before .before .deadline .ensures .0))))

@@ -1,0 +1,3 @@
+-- The passes of a board.
+pub mod System
+pub mod Settling

@@ -1,0 +1,46 @@
+// The passes of a board, over a prepared scratch.
+mod pass;
+
+use pass::advance;
+use pass::clear;
+use pass::make_pass;
+ghost use mathlib.Core.Path.{_≡_};
+ghost use Rattle.scratch.specs.Scratch.{Prepared};
+ghost use Rattle.settling.specs.System.{system};
+ghost use Rattle.settling.specs.Settling.{passesOf, Ended};
+
+// The passes needed, or that they exceed the limit.
+pub enum Passes {
+    Needed(u32),
+    Over,
+}
+
+// Makes passes from all zeros until one changes nothing, at most `limit` of them. Where the limit allows the passes needed,
+// the settled times are then the first n words.
+pub fn run(board: &[u32], n: usize, limit: u32, scratch: &mut [u32]) -> Passes
+    requires { ⌜ Prepared (now board) n (now scratch) ⌝ }
+    ensures { λ r. ⌜ (r ≡ passesOf (system (now (board .entry))) limit)
+        × Ended (system (now (board .entry))) limit (now (scratch .entry)) (now (scratch .exit)) ⌝ }
+{
+    clear(n, scratch);
+    let mut left = limit;
+    'passes: loop {
+        if left == 0 {
+            break Passes::Over;
+        }
+        left -= 1;
+        make_pass(board, n, scratch);
+        let mut i = 0;
+        'compare: loop {
+            if i == n {
+                let made = limit - left;
+                break 'passes Passes::Needed(made);
+            }
+            if scratch[i] != scratch[n + i] {
+                break 'compare;
+            }
+            i += 1;
+        }
+        advance(n, scratch);
+    }
+}
