@@ -1,0 +1,174 @@
+-- K1 to K11 as one theorem about the definitions that the calls' contracts cite, by computation.
+-- Assumes nothing.
+use Prim.Native.Nat.{ℕ, _/_, _%_}
+use mathlib.Core.List.{List, [], _∷_}
+use mathlib.Core.Path.{_≡_, refl}
+use lib.ListN.{length, set}
+use Rattle.folds.specs.Folds.{ceilDiv, sumTo, maxTo, countTo, anyTo, firstFrom, tabulate, fillTo, sameList}
+use Rattle.bitset.specs.Bits.{wordOf, wordsOf}
+use Rattle.board.specs.Layout.{firstTrace, firstInstruction}
+use Rattle.board.specs.Refusals.{headerRanges, headerOk, taskRanges, taskOk, workOk, refuseUnless, firstBad, refuseFirst, refusalOf}
+use Rattle.trace.specs.Cache.{firstIn, lastIn, someIn, hits, missCount}
+use Rattle.trace.specs.Traces.{traceOf, loads, tracePD, busLoads, traceMD, evicts, useful, usefulAt, mostUseful}
+use Rattle.figures.specs.Figures.{taskPD, taskMD, evicting, figureOf}
+use Rattle.figures.specs.Overhead.{evictedBy, reloads, γ}
+use Rattle.sums.specs.Sums.{memoryDemand, ownAccesses, carryIn, coreAccesses, lowerAccesses, interference, busAccesses, refreshes, higherWork, taskSum}
+use Rattle.passes.specs.Passes.{pass, after, unchanged, changes, passesBy, settledBy, firstLate}
+use Rattle.analysis.specs.Refusals.{figuresRefusal, overheadRefusal, analyseRefusal}
+use Rattle.analysis.specs.Answers.{figuresAnswer, overheadAnswer, settledAnswer, analyseAnswer, timesAfter}
+use Rattle.page.specs.Input.{wordsIn, inputRefusal}
+use Rattle.page.specs.Text.{digitsOf, decimal, line}
+use Rattle.page.specs.Page.{taskLines, answerPage, boardPage, pageOf}
+use Rattle.analysis.specs.declared.Answer.{Answer}
+use Rattle.analysis.specs.declared.Answer.the-variants.{Times, Late, Spent}
+use Rattle.analysis.specs.declared.Outcome.the-variants.{Value}
+
+-- ---- K1 to K8: boards without a cache
+
+abbrev pub K1 : List ℕ
+K1 =
+    2 ∷ 2 ∷ 2 ∷ 3 ∷ 0 ∷ 3 ∷ 1 ∷ 5 ∷ 0 ∷ 0 ∷ 0 ∷ 0 ∷ 100 ∷ 0 ∷ 0 ∷ 0 ∷ 0 ∷ 0 ∷ 0 ∷ 0
+    ∷ 1 ∷ 100 ∷ 100 ∷ 1 ∷ 0
+    ∷ 2 ∷ 60 ∷ 60 ∷ 1 ∷ 0
+    ∷ 2 ∷ 1
+    ∷ 0 ∷ 1 ∷ 2
+    ∷ 131072 ∷ 268664832 ∷ 537165825
+    ∷ []
+
+-- a times buffer of three words, one more than K1's tasks
+abbrev lent : List ℕ
+lent = 7 ∷ 7 ∷ 7 ∷ []
+
+-- Analyse's answer, with a scratch of n × n + 4n words and n records
+abbrev answer : List ℕ → Answer
+answer b = analyseAnswer b (length lent) 12 2
+
+-- the answer is times, with these passes, and the times buffer begins with these two times
+abbrev Settles : List ℕ → ℕ → ℕ → ℕ → Type 0
+Settles b time1 time2 passes = (answer b ≡ Times passes) × (timesAfter b (answer b) lent ≡ time1 ∷ time2 ∷ 7 ∷ [])
+
+abbrev K2 : List ℕ
+K2 = set (set K1 26 50) 27 50
+
+abbrev K3 : List ℕ
+K3 = set K1 22 35
+
+abbrev K4 : List ℕ
+K4 = set K1 22 34
+
+-- K1 with another pass limit
+abbrev K5 : ℕ → List ℕ
+K5 limit = set K1 12 limit
+
+-- K1 on another bus, word 6 being 0
+abbrev K6 : ℕ → List ℕ
+K6 bus = set (set K1 5 bus) 6 0
+
+abbrev K7 : List ℕ
+K7 = set K1 5 4
+
+abbrev K8 : List ℕ
+K8 = set (set (set (set K7 8 2) 9 20) 10 1) 11 3
+
+-- the bytes of the words, the lowest first
+abbrev bytesOf : List ℕ → List ℕ
+bytesOf [] = []
+bytesOf (w ∷ ws) = w % 256 ∷ w / 256 % 256 ∷ w / 65536 % 256 ∷ w / 16777216 ∷ bytesOf ws
+
+-- "ok 2 4", "1 1 35 100", "2 2 29 60", each ended by byte 10
+abbrev K1-page : List ℕ
+K1-page =
+    111 ∷ 107 ∷ 32 ∷ 50 ∷ 32 ∷ 52 ∷ 10
+    ∷ 49 ∷ 32 ∷ 49 ∷ 32 ∷ 51 ∷ 53 ∷ 32 ∷ 49 ∷ 48 ∷ 48 ∷ 10
+    ∷ 50 ∷ 32 ∷ 50 ∷ 32 ∷ 50 ∷ 57 ∷ 32 ∷ 54 ∷ 48 ∷ 10
+    ∷ []
+
+-- ---- K9 to K11: a cache of four sets, execute only
+
+-- one task that fetches x, y, z
+abbrev oneTask : ℕ → ℕ → ℕ → List ℕ
+oneTask x y z =
+    1 ∷ 1 ∷ 1 ∷ 3 ∷ 2 ∷ 2 ∷ 0 ∷ 5 ∷ 0 ∷ 0 ∷ 0 ∷ 0 ∷ 100 ∷ 4 ∷ 0 ∷ 0 ∷ 0 ∷ 0 ∷ 0 ∷ 0
+    ∷ 1 ∷ 100 ∷ 100 ∷ 1 ∷ 0
+    ∷ 3
+    ∷ x ∷ y ∷ z
+    ∷ 0 ∷ 0 ∷ 0
+    ∷ []
+
+abbrev K9 : List ℕ
+K9 = oneTask 0 1 0
+
+abbrev K10 : List ℕ
+K10 = oneTask 0 4 0
+
+-- K9's trace as task 2, and task 1 on the same core fetching only block m
+abbrev K11 : ℕ → List ℕ
+K11 m =
+    1 ∷ 2 ∷ 2 ∷ 4 ∷ 2 ∷ 2 ∷ 0 ∷ 5 ∷ 0 ∷ 0 ∷ 0 ∷ 0 ∷ 100 ∷ 4 ∷ 0 ∷ 0 ∷ 0 ∷ 0 ∷ 0 ∷ 0
+    ∷ 1 ∷ 100 ∷ 100 ∷ 1 ∷ 0
+    ∷ 1 ∷ 100 ∷ 100 ∷ 1 ∷ 0
+    ∷ 1 ∷ 3
+    ∷ m ∷ 0 ∷ 1 ∷ 0
+    ∷ 0 ∷ 0 ∷ 0 ∷ 0
+    ∷ []
+
+-- the board passes the checks of Figures; task 1's MD and ECB
+abbrev Figured : List ℕ → ℕ → List ℕ → Type 0
+Figured b md ecb = (figuresAnswer b 1 ≡ Value 1) × (figureOf b 0 .md ≡ md) × (figureOf b 0 .ecb ≡ ecb)
+
+-- the sets useful at points 0, 1 and 2 of its trace
+abbrev usefulSets : List ℕ → List (List ℕ)
+usefulSets b = tabulate (λ p. wordsOf (useful (traceOf b 0) p)) 3
+
+-- set 0 alone, sets 0 and 1, and no set
+abbrev set0 : List ℕ
+set0 = 1 ∷ 0 ∷ 0 ∷ 0 ∷ []
+
+abbrev sets01 : List ℕ
+sets01 = 3 ∷ 0 ∷ 0 ∷ 0 ∷ []
+
+abbrev noSet : List ℕ
+noSet = 0 ∷ 0 ∷ 0 ∷ 0 ∷ []
+
+-- ---- the theorem
+
+pub examples :
+    Settles K1 35 29 4
+    × (pageOf (bytesOf K1) ≡ K1-page)
+    × Settles K2 40 29 5
+    × Settles K3 35 29 4
+    × (answer K4 ≡ Late 1 4)
+    × (answer (K5 3) ≡ Spent)
+    × Settles (K5 4) 35 29 4
+    × Settles (K6 2) 35 34 4
+    × Settles (K6 0) 35 34 4
+    × Settles (K6 1) 35 34 4
+    × Settles K7 40 29 3
+    × Settles K8 49 35 4
+    × Figured K9 2 sets01
+    × (usefulSets K9 ≡ noSet ∷ set0 ∷ set0 ∷ [])
+    × Figured K10 3 set0
+    × (usefulSets K10 ≡ noSet ∷ noSet ∷ noSet ∷ [])
+    × (overheadAnswer (K11 4) 2 1 ≡ Value 1)
+    × (overheadAnswer (K11 5) 2 1 ≡ Value 0)
+unfolding ceilDiv sumTo maxTo countTo anyTo firstFrom tabulate fillTo sameList wordOf wordsOf firstTrace firstInstruction headerRanges headerOk taskRanges taskOk workOk refuseUnless firstBad refuseFirst refusalOf firstIn lastIn someIn hits missCount traceOf loads tracePD busLoads traceMD evicts useful usefulAt mostUseful taskPD taskMD evicting figureOf evictedBy reloads γ memoryDemand ownAccesses carryIn coreAccesses lowerAccesses interference busAccesses refreshes higherWork taskSum pass after unchanged changes passesBy settledBy firstLate figuresRefusal overheadRefusal analyseRefusal figuresAnswer overheadAnswer settledAnswer analyseAnswer timesAfter wordsIn inputRefusal digitsOf decimal line taskLines answerPage boardPage pageOf
+examples = (
+  (refl, refl),
+  refl,
+  (refl, refl),
+  (refl, refl),
+  refl,
+  refl,
+  (refl, refl),
+  (refl, refl),
+  (refl, refl),
+  (refl, refl),
+  (refl, refl),
+  (refl, refl),
+  (refl, refl, refl),
+  refl,
+  (refl, refl, refl),
+  refl,
+  refl,
+  refl,
+)

@@ -1,0 +1,63 @@
+-- The page of a board and of the input, from what Analyse answers and row 15 says.
+-- Assumes nothing.
+use Prim.Native.Nat.{ℕ, _≤_}
+use mathlib.Core.List.{List}
+use mathlib.Core.Path.{_≡_, refl, sym, ap, _∙_}
+use native.Mathlib.Omega.{arith}
+use lib.Dec.{leb}
+use lib.ListN.{length}
+use borrow.Author.Tests.{leb-true}
+use Rattle.board.specs.Layout.{tasks}
+use Rattle.board.specs.Refusals.{refusalOf, _orElse_}
+use Rattle.board.specs.Sound.{Sound}
+use Rattle.board.specs.declared.Verdict.{Verdict}
+use Rattle.board.specs.declared.Verdict.the-variants.{Passed, Refused as Verdict·Refused}
+use Rattle.board.proofs.Verdicts.{orElse-passed, refuseUnless-passed}
+use Rattle.board.proofs.Sound.{sound}
+use Rattle.analysis.specs.Refusals.{timesRow, scratchRow, tableRow, analyseRefusal}
+use Rattle.analysis.specs.Answers.{answerBy, analyseAnswer, timesAfter}
+use Rattle.analysis.specs.declared.Answer.{Answer}
+use Rattle.analysis.specs.declared.Answer.the-variants.{Times, Late, Spent, Refused}
+use Rattle.page.specs.Input.{wordsIn, inputRefusal}
+use Rattle.page.specs.Page.{lentTimes, lentScratch, lentRecords, badLine, answerPage, boardPage, pageBy, pageOf}
+use Rattle.page.specs.Printable.{Printable}
+use Rattle.page.proofs.Answers.{printable-as}
+
+-- what Analyse answers can be printed: where it does not refuse, the board is sound and each task has a time
+module _ (b R : List ℕ) where
+  any-printable : (r : Answer) → Sound b → tasks b ≤ length R → Printable b R r
+  any-printable (Times passes) s h = (s, h)
+  any-printable (Late task passes) s h = tt
+  any-printable Spent s h = s
+  any-printable (Refused number place) s h = tt
+
+  module _ (times scratch table : ℕ) (room : length R ≡ times) where
+    passed-printable : (r : Answer) → analyseRefusal b times scratch table ≡ Passed → Printable b R r
+    unfolding analyseRefusal
+    passed-printable r e =
+        let all = orElse-passed (refusalOf b) (timesRow b times orElse scratchRow b scratch orElse tableRow b table) e in
+        let row = orElse-passed (timesRow b times) (scratchRow b scratch orElse tableRow b table) (all .1) .0 in
+        any-printable r (sound b (all .0)) (omega (arith, leb-true (tasks b) times (refuseUnless-passed 11 (leb (tasks b) times) times row)))
+
+    by-verdict : (v : Verdict) → analyseRefusal b times scratch table ≡ v → Printable b R (answerBy v b)
+    by-verdict Passed e = passed-printable (answerBy Passed b) e
+    by-verdict (Verdict·Refused number place) e = tt
+
+    pub analyse-printable : {r : Answer} → r ≡ analyseAnswer b times scratch table → Printable b R r
+    unfolding analyseAnswer
+    analyse-printable e = printable-as b R (sym e) (by-verdict (analyseRefusal b times scratch table) refl)
+
+-- the page of Analyse's answer is the board's
+pub boardPage-is : (b R : List ℕ) (r : Answer) → r ≡ analyseAnswer b 64 lentScratch lentRecords → R ≡ timesAfter b r lentTimes
+    → answerPage b R r ≡ boardPage b
+unfolding boardPage
+boardPage-is b R r e h = rw (h, e)
+
+-- the page of an input that row 15 passes, and of one that it refuses
+pub pageOf-passed : (bytes words : List ℕ) → inputRefusal bytes ≡ Passed → words ≡ wordsIn bytes → boardPage words ≡ pageOf bytes
+unfolding pageOf
+pageOf-passed bytes words e h = ap boardPage h ∙ ap (λ (v : Verdict). pageBy v bytes) (sym e)
+
+pub pageOf-refused : (bytes : List ℕ) (number place : ℕ) → inputRefusal bytes ≡ Verdict·Refused number place → badLine number place ≡ pageOf bytes
+unfolding pageOf
+pageOf-refused bytes number place e = ap (λ (v : Verdict). pageBy v bytes) (sym e)

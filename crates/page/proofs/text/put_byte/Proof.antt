@@ -1,0 +1,11 @@
+-- `page::text::put_byte` meets its contract.
+use borrow.Author.Needs.{needs}
+use Rattle.page.proofs.Buffer.{put-one}
+use Rattle.page.proofs.text.put_byte.Statement.{statement}
+use Rattle.page.proofs.text.put_byte.Tie as tie
+
+pub put-byte-spec : {M : Type 1} → statement M
+put-byte-spec =
+    tie.close
+    (tie.spec (λ c. search needs) (λ c. search needs) (λ c. search needs)
+    (λ c. put-one (c .args .out .now) (c .args .at) (c .args .byte) (c .pre)))

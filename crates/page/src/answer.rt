@@ -1,0 +1,85 @@
+// The page of an answer, put into a lent buffer.
+ghost use mathlib.Core.List.{[], _∷_};
+ghost use Prim.Native.Nat.{_+_, _*_, _≤_, _<_};
+ghost use lib.ListN.{length};
+ghost use Rattle.page.specs.Text.{decimal, line};
+ghost use Rattle.page.specs.Buffer.{Put};
+ghost use Rattle.page.specs.Page.{taskLine, taskLines, answerPage};
+ghost use Rattle.page.specs.Printable.{Printable};
+ghost use Rattle.board.specs.Layout.{tasks};
+ghost use Rattle.board.specs.Sound.{Sound};
+ghost use Rattle.analysis.specs.declared.Answer.the-variants.{Times};
+use crate::text::put_field;
+use crate::text::put_number;
+use crate::text::put_word;
+use analysis::Answer;
+use folds::index;
+use folds::wide;
+
+// Puts a line of a text and one number at the start: at most 22 bytes after the text.
+fn number_line(out: &mut [u8], text: &[u8], x: u64) -> usize
+    requires { ⌜ length (now text) + 22 ≤ length (now out) ⌝ }
+    ensures { λ r. ⌜ Put (now (out .entry)) 0 (line (now (text .entry) ∷ decimal x ∷ [])) (now (out .exit)) r ⌝ }
+{
+    let next = put_field(out, 0, text, b' ');
+    put_number(out, next, x, b'\n')
+}
+
+// Puts a line of a text and two numbers at the start: at most 43 bytes after the text.
+pub fn pair_line(out: &mut [u8], text: &[u8], x: u64, y: u64) -> usize
+    requires { ⌜ length (now text) + 43 ≤ length (now out) ⌝ }
+    ensures { λ r. ⌜ Put (now (out .entry)) 0 (line (now (text .entry) ∷ decimal x ∷ decimal y ∷ [])) (now (out .exit)) r × (r ≤ length (now (text .entry)) + 43) ⌝ }
+{
+    let first = put_field(out, 0, text, b' ');
+    let next = put_number(out, first, x, b' ');
+    put_number(out, next, y, b'\n')
+}
+
+// Puts the line of task k: four words, at most 44 bytes.
+fn task_line(out: &mut [u8], at: usize, board: &[u32], times: &[u32], k: usize) -> usize
+    requires { ⌜ (k < 64) × (20 + 5 * k + 5 ≤ length (now board)) × (k < length (now times)) × (at + 44 ≤ length (now out)) ⌝ }
+    ensures { λ r. ⌜ Put (now (out .entry)) at (taskLine (now (board .entry)) (now (times .entry)) k) (now (out .exit)) r × (r ≤ at + 44) ⌝ }
+{
+    let words = 20 + 5 * k;
+    let first = put_word(out, at, k as u32 + 1, b' ');
+    let second = put_word(out, first, board[words], b' ');
+    let third = put_word(out, second, times[k], b' ');
+    put_word(out, third, board[words + 2], b'\n')
+}
+
+// Puts the lines of the first n tasks.
+fn task_lines(out: &mut [u8], at: usize, board: &[u32], times: &[u32], n: usize) -> usize
+    requires { ⌜ (n ≤ 64) × (20 + 5 * n ≤ length (now board)) × (n ≤ length (now times)) × (at + 44 * n ≤ length (now out)) ⌝ }
+    ensures { λ r. ⌜ Put (now (out .entry)) at (taskLines (now (board .entry)) (now (times .entry)) n) (now (out .exit)) r ⌝ }
+{
+    let mut next = at;
+    let mut k = 0;
+    while k < n {
+        next = task_line(out, next, board, times, k);
+        k += 1;
+    }
+    next
+}
+
+// Puts the page of times: the number of tasks and the passes, then a line a task.
+fn times_page(out: &mut [u8], board: &[u32], times: &[u32], passes: u32) -> usize
+    requires { ⌜ Sound (now board) × (tasks (now board) ≤ length (now times)) × (4096 ≤ length (now out)) ⌝ }
+    ensures { λ r. ⌜ Put (now (out .entry)) 0 (answerPage (now (board .entry)) (now (times .entry)) (Times passes)) (now (out .exit)) r ⌝ }
+{
+    let n = index(board[1]);
+    let next = pair_line(out, b"ok", n as u64, wide(passes));
+    task_lines(out, next, board, times, n)
+}
+
+// Puts the page of an answer at the start of the buffer, with the times of its tasks in `times`.
+pub fn answer_page(out: &mut [u8], board: &[u32], times: &[u32], answer: Answer) -> usize
+    requires { ⌜ Printable (now board) (now times) answer × (4096 ≤ length (now out)) ⌝ }
+    ensures { λ r. ⌜ Put (now (out .entry)) 0 (answerPage (now (board .entry)) (now (times .entry)) answer) (now (out .exit)) r ⌝ }
+{
+    match answer {
+        Answer::Times(passes) => times_page(out, board, times, passes),
+        Answer::Late(task, passes) => pair_line(out, b"late", wide(task), wide(passes)),
+        Answer::Spent => number_line(out, b"spent", wide(board[12])),
+        Answer::Refused(number, place) => pair_line(out, b"bad", number as u64, place as u64),
+    }
+}

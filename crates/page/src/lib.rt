@@ -1,0 +1,67 @@
+// The program's input as words, and its answer page as bytes.
+mod answer;
+mod input;
+mod text;
+
+ghost use mathlib.Core.Path.{_≡_};
+ghost use Prim.Native.Nat.{_≤_};
+ghost use lib.ListN.{length, take, drop};
+ghost use Rattle.io.specs.Counts.{Counts};
+ghost use Rattle.board.specs.declared.Verdict.the-variants.{Passed};
+ghost use Rattle.page.specs.Input.{inputRefusal};
+ghost use Rattle.page.specs.Buffer.{Put};
+ghost use Rattle.page.specs.Page.{boardPage, pageOf};
+use answer::answer_page;
+use answer::pair_line;
+use board::Verdict;
+use input::decode;
+use input::refusal;
+
+// Reads the input until its end, a failed read or 65,537 bytes, and writes its page.
+pub fn run(from: i32, to: i32) {
+    let mut bytes = [0u8; 65537];
+    let count = io::read_full(from, &mut bytes);
+    let mut out = [0u8; 4096];
+    let size = page_of(&bytes[..count], &mut out);
+    io::write_all(to, &out[..size]);
+}
+
+// Puts the page of the input at the start of out, and answers its length. The rest of out is as it was.
+pub fn page_of(bytes: &[u8], out: &mut [u8; 4096]) -> usize
+    ensures { λ r. ⌜ take r (now (out .exit)) ≡ pageOf (now (bytes .entry)) ⌝ }
+    ensures { λ r. ⌜ drop r (now (out .exit)) ≡ drop r (now (out .entry)) ⌝ }
+    ensures { λ r. ⌜ Counts r (now (out .exit)) ⌝ }
+{
+    input_page(out, bytes)
+}
+
+fn input_page(out: &mut [u8], bytes: &[u8]) -> usize
+    requires { ⌜ 4096 ≤ length (now out) ⌝ }
+    ensures { λ r. ⌜ Put (now (out .entry)) 0 (pageOf (now (bytes .entry))) (now (out .exit)) r ⌝ }
+{
+    match refusal(bytes) {
+        Verdict::Passed => words_page(out, bytes),
+        Verdict::Refused(number, place) => pair_line(out, b"bad", number as u64, place as u64),
+    }
+}
+
+// Puts the page of an input that row 15 does not refuse.
+fn words_page(out: &mut [u8], bytes: &[u8]) -> usize
+    requires { ⌜ (inputRefusal (now bytes) ≡ Passed) × (4096 ≤ length (now out)) ⌝ }
+    ensures { λ r. ⌜ Put (now (out .entry)) 0 (pageOf (now (bytes .entry))) (now (out .exit)) r ⌝ }
+{
+    let mut words = [0u32; 16384];
+    let n = decode(bytes, &mut words);
+    board_page(out, &words[..n])
+}
+
+// Puts the page of a board.
+fn board_page(out: &mut [u8], board: &[u32]) -> usize
+    requires { ⌜ 4096 ≤ length (now out) ⌝ }
+    ensures { λ r. ⌜ Put (now (out .entry)) 0 (boardPage (now (board .entry))) (now (out .exit)) r ⌝ }
+{
+    let mut times = [0u32; 64];
+    let mut scratch = [0u32; 4352];
+    let answer = analysis::analyse_alone(board, &mut times, &mut scratch);
+    answer_page(out, board, &times, answer)
+}
