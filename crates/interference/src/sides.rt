@@ -2,7 +2,7 @@
 use board::fields::core;
 use sums::carry::carry_in;
 ghost use mathlib.Core.Path.{_≡_};
-ghost use Prim.Native.Nat.{ℕ, _+_, _<_, _≤_, _^_};
+ghost use Prim.Native.Nat.{_+_, _<_, _≤_, _^_};
 ghost use lib.Dec.{ltb};
 ghost use Rattle.folds.specs.Folds.{when};
 ghost use Rattle.board.specs.Layout as at;

@@ -41,17 +41,17 @@ module _ (b R : List ℕ) (s : Sound b) (short : (k : ℕ) → k < tasks b → g
   abbrev late : (k : ℕ) → k < tasks b → getD R k 0 ≤ 2 ^ 28
   late k h = time-bound b R s short k h
 
-  pub releases-bound : (k : ℕ) → releases b i k (getD R i 0) ≤ 2 ^ 28
+  releases-bound : (k : ℕ) → releases b i k (getD R i 0) ≤ 2 ^ 28
   releases-bound k = le-trans (ceilDiv-self (getD R i 0) (period b k)) (late i task)
 
-  pub ownAccesses-bound : ownAccesses b R i ≤ 64 * (2 ^ 28 * 2 ^ 12)
+  ownAccesses-bound : ownAccesses b R i ≤ 64 * (2 ^ 28 * 2 ^ 12)
   unfolding ownAccesses
   ownAccesses-bound =
       where-bound _ 64 (2 ^ 28 * 2 ^ 12) (λ k. eqb (core b k) (core b i)) _ (omega (arith, s .tasks .1))
       (λ k h. mul-le-mul (releases-bound k) (demand-bound b s i k (omega arith)))
 
   -- W rises with its window, which is at most 2^29 periods
-  pub carryIn-bound : (j k : ℕ) → k < tasks b → carryIn b R i j k ≤ 2 ^ 12 * 2 ^ 29 + 2 ^ 12
+  carryIn-bound : (j k : ℕ) → k < tasks b → carryIn b R i j k ≤ 2 ^ 12 * 2 ^ 29 + 2 ^ 12
   unfolding carryIn
   carryIn-bound j k h =
       let m = memoryDemand b j k in
@@ -78,7 +78,7 @@ module _ (b R : List ℕ) (s : Sound b) (short : (k : ℕ) → k < tasks b → g
   everyone-bound : (y : ℕ) → coreAccesses b R i (lowest b) y ≤ 64 * (2 ^ 12 * 2 ^ 29 + 2 ^ 12)
   everyone-bound y = coreAccesses-bound (lowest b) y (omega arith)
 
-  pub slots-bound : slotsEach b ≤ 8
+  slots-bound : slotsEach b ≤ 8
   slots-bound = go (bus b) (s .slots) (s .noSlots)
     where
       go : (c : ℕ) → (3 ≤ c → (1 ≤ slotsEach b) × (slotsEach b ≤ 8)) → (c < 3 → slotsEach b ≡ 0) → slotsEach b ≤ 8
@@ -87,7 +87,7 @@ module _ (b R : List ℕ) (s : Sound b) (short : (k : ℕ) → k < tasks b → g
       go (suc (suc zero)) some none = omega (arith, none (omega arith))
       go (suc (suc (suc c))) some none = some (omega arith) .1
 
-  pub interference-bound : (c : ℕ) → interference b R i c ≤ 2 ^ 52
+  interference-bound : (c : ℕ) → interference b R i c ≤ 2 ^ 52
   unfolding interference
   interference-bound zero =
       omega (
@@ -120,7 +120,7 @@ module _ (b R : List ℕ) (s : Sound b) (short : (k : ℕ) → k < tasks b → g
   unfolding busAccesses
   busAccesses-bound = omega (arith, ownAccesses-bound, interference-bound (bus b))
 
-  pub rows-bound : refreshRows b ≤ 65535
+  rows-bound : refreshRows b ≤ 65535
   rows-bound = go (refresh b) (s .rows) (s .noRefresh)
     where
       go : (c : ℕ) → (1 ≤ c → (1 ≤ refreshRows b) × (refreshRows b ≤ 65535))
@@ -139,16 +139,11 @@ module _ (b R : List ℕ) (s : Sound b) (short : (k : ℕ) → k < tasks b → g
       )
   refreshes-bound (suc (suc c)) = omega (arith, busAccesses-bound)
 
-  pub higherWork-bound : higherWork b R i ≤ 64 * (2 ^ 28 * 2 ^ 22)
+  higherWork-bound : higherWork b R i ≤ 64 * (2 ^ 28 * 2 ^ 22)
   unfolding higherWork
   higherWork-bound =
       where-bound i 64 (2 ^ 28 * 2 ^ 22) (λ k. eqb (core b k) (core b i)) _ (omega (arith, s .tasks .1))
       (λ k h. mul-le-mul (releases-bound k) (work-bound b s k (omega arith)))
-
-  -- what is added up on the way
-  pub releaseCost-bound : (cost : ℕ → ℕ) (m k : ℕ) → ((j : ℕ) → j < tasks b → cost j ≤ m) → k ≤ i → sumTo (releaseCost b R i cost) k ≤ 64 * (2 ^ 28 * m)
-  releaseCost-bound cost m k few h =
-      where-bound k 64 (2 ^ 28 * m) (λ j. eqb (core b j) (core b i)) _ (omega (arith, s .tasks .1)) (λ j l. mul-le-mul (releases-bound j) (few j (omega arith)))
 
   pub taskSum-bound : taskSum b R i < 2 ^ 64
   taskSum-bound =
@@ -161,7 +156,14 @@ module _ (b R : List ℕ) (s : Sound b) (short : (k : ℕ) → k < tasks b → g
         mul-le-mul {n₁ = refreshes b R i (refresh b)} {m₁ = refreshCycles b} {n₂ = 2 ^ 53} {m₂ = 255} (refreshes-bound (refresh b)) (s .refreshCycles),
       )
 
+-- ---- what code adds up on the way
+
 module _ (b row R : List ℕ) (i j : ℕ) (h : RowInput b row R i j) where
+  pub releaseCost-bound : (cost : ℕ → ℕ) (m k : ℕ) → ((l : ℕ) → l < tasks b → cost l ≤ m) → k ≤ i → sumTo (releaseCost b R i cost) k ≤ 64 * (2 ^ 28 * m)
+  releaseCost-bound cost m k few le =
+      where-bound k 64 (2 ^ 28 * m) (λ l. eqb (core b l) (core b i)) _ (omega (arith, h .task, h .sound .tasks .1))
+      (λ l less. mul-le-mul (releases-bound b R (h .sound) (h .times .short) i (h .task) l) (few l (omega (arith, h .task))))
+
   pub carry-bound : (k : ℕ) → k < tasks b → carryIn b R i j k ≤ 2 ^ 42
   carry-bound k l = omega (arith, carryIn-bound b R (h .sound) (h .times .short) i (h .task) j k l)
 

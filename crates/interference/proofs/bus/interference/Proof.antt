@@ -38,4 +38,5 @@ tdma-requires c κs =
 pub interference-spec : {M : Type 1} → statement M
 interference-spec =
     tie.close
-    (tie.spec (λ c κs. search needs) (λ c κs. search needs) (λ c κs. search needs) (λ c κs. search needs) (λ c κs. search needs) tdma-requires returns returns-2 returns-3 returns-4 returns-5)
+    (tie.spec (λ c κs. search needs) (λ c κs. search needs) (λ c κs. search needs) (λ c κs. search needs) (λ c κs. search needs) tdma-requires
+    returns returns-2 returns-3 returns-4 returns-5)

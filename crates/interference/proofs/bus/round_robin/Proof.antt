@@ -35,10 +35,12 @@ returns c =
     let s = c .before .before .before .before .before .before .before .before .before .before in
     let v = c .before .before .before .before .before in
     c .sum-capped .ensures
-    ∙ round-robin-is _ _ _ _ (c .before .before .before .before .lowest .ensures) (c .before .before .before .by-core .ensures) (s .pre .0 .0 .sound .cores .1) (c .before .index .ensures .0 ∙ c .before .before .cores .ensures .0)
+    ∙ round-robin-is _ _ _ _ (c .before .before .before .before .lowest .ensures) (c .before .before .before .by-core .ensures)
+    (s .pre .0 .0 .sound .cores .1) (c .before .index .ensures .0 ∙ c .before .before .cores .ensures .0)
     (product-cong (v .wide .ensures .0 ∙ v .before .slots-each .ensures .0) (s .pre .1))
 
 pub round-robin-spec : {M : Type 1} → statement M
 round-robin-spec =
     tie.close
-    (tie.spec (λ c κs. search needs) (λ c κs. search needs) (λ c κs. search needs) by-core-requires (λ c κs. search needs) (λ c κs. search needs) mul-sum-capped sum-capped-requires returns)
+    (tie.spec (λ c κs. search needs) (λ c κs. search needs) (λ c κs. search needs) by-core-requires (λ c κs. search needs) (λ c κs. search needs)
+    mul-sum-capped sum-capped-requires returns)

@@ -20,9 +20,12 @@ Inv-loop board row times i j table₀ k₀ table k =
 abbrev μ-loop : tie.MeasureT-loop
 μ-loop board row times i j table₀ k₀ table k = j + 1 - k
 
--- what task m adds to the sum at y
+-- what task m adds, and what of it to the sum at y
+abbrev off : tie.Start Inv-loop μ-loop → ℕ → ℕ
+off s m = carriedOff (s .args .board .now) (s .args .times .now) (s .args .i) (s .args .j) m
+
 abbrev term : tie.Start Inv-loop μ-loop → ℕ → ℕ → ℕ
-term s y m = when (eqb (core (s .args .board .now) m) (y + 1)) (carriedOff (s .args .board .now) (s .args .times .now) (s .args .i) (s .args .j) m)
+term s y m = when (eqb (core (s .args .board .now) m) (y + 1)) (off s m)
 
 loop-holds : tie.Need-loop-holds Inv-loop μ-loop
 loop-holds c = (omega arith, table-none (term (c .before .before .before)) 8)
@@ -36,17 +39,16 @@ add-table c =
     omega (
       arith,
       l .inv .1 .at y here,
-      onCore-bound (s .args .board .now) (s .args .row .now) (s .args .times .now) (s .args .i) (s .args .j) (s .pre) (y + 1) (l .k) (omega arith),
-      carriedOff-bound (s .args .board .now) (s .args .row .now) (s .args .times .now) (s .args .i) (s .args .j) (s .pre) (l .k) (omega (arith, s .pre .below)),
+      onCore-bound _ _ _ _ _ (s .pre) (y + 1) (l .k) (omega arith),
+      carriedOff-bound _ _ _ _ _ (s .pre) (l .k) (omega (arith, s .pre .below)),
     )
 
 loop-again : tie.Need-loop-again Inv-loop μ-loop
 loop-again c =
-    let s = c .before .before .before .before .before .before .before .before in (
-      omega arith,
-      table-turn (λ m. core (s .args .board .now) m) (λ m. carriedOff (s .args .board .now) (s .args .times .now) (s .args .i) (s .args .j) m) 8 _
-          (c .before .before .before .before .loop .inv .1) (omega arith) (omega arith) (ap (λ (n : ℕ). getD (c .before .before .before .before .loop .table) (c .before .index .result - 1) 0 + n) (c .carry-off .ensures)),
-    )
+    let s = c .before .before .before .before .before .before .before .before in
+    let l = c .before .before .before .before .loop in
+    let sum = ap (λ (n : ℕ). getD (l .table) (c .before .index .result - 1) 0 + n) (c .carry-off .ensures) in
+    (omega arith, table-turn (core (s .args .board .now)) (off s) 8 _ (l .inv .1) (omega arith) (omega arith) sum)
 
 returns : tie.Need-returns Inv-loop μ-loop
 unfolding carriedFrom
@@ -55,4 +57,5 @@ returns c = table-end (term (c .before .before .before .before .before)) 8 (c .b
 pub by-core-spec : {M : Type 1} → statement M
 by-core-spec =
     tie.close
-    (tie.spec Inv-loop μ-loop loop-holds (λ c κs. search needs) (λ c κs. search needs) (λ c. search needs) (λ c. search needs) (λ c. search needs) (λ c κs. search needs) add-table (λ c. search needs) (λ c. search needs) (λ c. search needs) (λ c. search needs) loop-again returns)
+    (tie.spec Inv-loop μ-loop loop-holds (λ c κs. search needs) (λ c κs. search needs) (λ c. search needs) (λ c. search needs) (λ c. search needs)
+    (λ c κs. search needs) add-table (λ c. search needs) (λ c. search needs) (λ c. search needs) (λ c. search needs) loop-again returns)

@@ -26,13 +26,12 @@ few-accesses : (c : tie.At-loop Inv-loop μ-loop) → c .loop .sums .accesses �
 few-accesses c =
     let s = c .before .before .before .before .before in
     let h = s .pre .0 in
-    omega (arith, releaseCost-bound (s .args .board .now) (s .args .times .now) (h .sound) (h .times .short) (s .args .i) (h .task) _ (2 ^ 12) (c .loop .k) (demand-bound _ (h .sound) (s .args .i)) (omega arith))
+    omega (arith, releaseCost-bound _ _ _ _ _ h _ (2 ^ 12) (c .loop .k) (demand-bound _ (h .sound) (s .args .i)) (omega arith))
 
 little-work : (c : tie.At-loop Inv-loop μ-loop) → c .loop .sums .work ≤ 2 ^ 56
 little-work c =
-    let s = c .before .before .before .before .before in
-    let h = s .pre .0 in
-    omega (arith, releaseCost-bound (s .args .board .now) (s .args .times .now) (h .sound) (h .times .short) (s .args .i) (h .task) _ (2 ^ 22) (c .loop .k) (work-bound _ (h .sound)) (omega arith))
+    let h = c .before .before .before .before .before .pre .0 in
+    omega (arith, releaseCost-bound _ _ _ _ _ h _ (2 ^ 22) (c .loop .k) (work-bound _ (h .sound)) (omega arith))
 
 with-task-requires : tie.Need-with-task-requires Inv-loop μ-loop
 with-task-requires c κs =
@@ -46,6 +45,12 @@ add-last c =
       few-accesses (c .before .before .before .before),
       product-bound {x = c .before .before .releases .result} {y = c .before .demand .result} (2 ^ 28) (2 ^ 12) (omega arith) (omega arith),
     )
+
+loop-again : tie.Need-loop-again Inv-loop μ-loop
+loop-again c =
+    let l = c .before .before .loop in
+    let e = c .with-task .ensures in
+    (omega arith, e .0 ∙ sumTo-turn _ _ (l .inv .1) refl, e .1 ∙ sumTo-turn _ _ (l .inv .2) refl)
 
 returns : tie.Need-returns Inv-loop μ-loop
 unfolding ownAccesses higherWork
@@ -62,5 +67,5 @@ pub released-spec : {M : Type 1} → statement M
 released-spec =
     tie.close
     (tie.spec Inv-loop μ-loop (λ c. (omega arith, sym (sumTo-none _), sym (sumTo-none _))) with-task-requires (λ c. search needs) (λ c. search needs)
-    (λ c. (omega arith, c .with-task .ensures .0 ∙ sumTo-turn _ _ (c .before .before .loop .inv .1) refl, c .with-task .ensures .1 ∙ sumTo-turn _ _ (c .before .before .loop .inv .2) refl))
+    loop-again
     (λ c κs. search needs) (λ c κs. search needs) (λ c. product-fits (2 ^ 28) (2 ^ 12) (omega arith) (omega arith) (lit< tt)) add-last returns)

@@ -18,8 +18,10 @@ returns c =
     let p = c .before .before .before .before .before in
     let k = p .before .before .core .ensures .0 in
     let i = p .before .core2 .ensures .0 in
-    let n = c .before .before .before .before .releases in
-    (add-on _ k i (p .if1 .taken) (product-cong (n .ensures .0) (c .before .before .before .demand .ensures .0)), add-on _ k i (p .if1 .taken) (product-cong (n .ensures .0) (c .before .before .work .ensures .0)))
+    let n = c .before .before .before .before .releases .ensures .0 in
+    let accesses = product-cong n (c .before .before .before .demand .ensures .0) in
+    let work = product-cong n (c .before .before .work .ensures .0) in
+    (add-on _ k i (p .if1 .taken) accesses, add-on _ k i (p .if1 .taken) work)
 
 returns-2 : tie.Need-returns-2
 returns-2 c =

@@ -1,0 +1,22 @@
+-- `capi::reply::of_outcome` meets its contract: each arm is its variant's case of `outcomeCode` and `outcomeNumber`.
+use mathlib.Core.Path.{sym}
+use borrow.Author.Needs.{needs}
+use Rattle.capi.specs.Replies.{outcomeCode, outcomeNumber}
+use Rattle.capi.proofs.Replies.{replies-as}
+use Rattle.capi.proofs.reply.of_outcome.Statement.{statement}
+use Rattle.capi.proofs.reply.of_outcome.Tie as tie
+
+value : tie.Need-returns
+value c =
+    let given = c .before .before in
+    replies-as outcomeCode outcomeNumber _ _ _ (sym (given .before .before .before .outcome .given .1)) (given .give .ensures)
+
+refused : tie.Need-returns-2
+refused c =
+    let given = c .before .before in
+    replies-as outcomeCode outcomeNumber _ _ _ (sym (given .before .before .before .outcome2 .given .1)) (given .give2 .ensures)
+
+pub of-outcome-spec : {M : Type 1} → statement M
+of-outcome-spec =
+    tie.close
+    (tie.spec (λ c. search needs) (λ c κs. search needs) (λ c. search needs) (λ c κs. search needs) (λ c. search needs) value (λ c. search needs) refused)

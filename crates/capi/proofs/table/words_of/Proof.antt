@@ -1,0 +1,16 @@
+-- `capi::table::words_of` meets its contract, word by word.
+use borrow.Author.Needs.{needs}
+use Rattle.capi.specs.Records.{figureWords}
+use Rattle.capi.proofs.table.words_of.Statement.{statement}
+use Rattle.capi.proofs.table.words_of.Tie as tie
+
+returns : tie.Need-returns
+unfolding figureWords
+returns c = cc
+
+pub words-of-spec : {M : Type 1} → statement M
+words-of-spec =
+    tie.close
+    (tie.spec (λ c. search needs) (λ c κs. search needs) (λ c. search needs) (λ c κs. search needs) (λ c. search needs) (λ c κs. search needs)
+    (λ c. search needs) (λ c κs. search needs) (λ c. search needs) (λ c κs. search needs) (λ c. search needs) (λ c κs. search needs)
+    (λ c. search needs) (λ c κs. search needs) (λ c. search needs) (λ c κs. search needs) returns)

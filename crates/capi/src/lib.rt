@@ -1,0 +1,78 @@
+// The four calls for C and Rust, on numbers and word slices; include/zuzgravel.h declares them. Each takes every input, returns a code, and
+// puts its two numbers into the first two words of `numbers`, as far as there is room.
+mod reply;
+mod table;
+
+use reply::of_answer;
+use reply::of_outcome;
+use table::fill;
+ghost use mathlib.Core.Path.{_≡_};
+ghost use Prim.Native.Nat.{_/_};
+ghost use lib.ListN.{length};
+ghost use Rattle.folds.specs.Folds.{fillTo};
+ghost use Rattle.board.specs.Layout.{passLimit};
+ghost use Rattle.board.specs.declared.Verdict.the-variants.{Passed};
+ghost use Rattle.analysis.specs.Refusals.{figuresRefusal, analyseRefusal};
+ghost use Rattle.analysis.specs.Answers.{system, figuresAnswer, overheadAnswer, weighAnswer, analyseAnswer, timesAfter, ScratchAfter};
+ghost use Rattle.analysis.specs.Demand.{Demand3};
+ghost use Rattle.capi.specs.Replies.{outcomeCode, outcomeNumber, answerCode, answerNumber};
+ghost use Rattle.capi.specs.Records.{recordsAfter};
+
+// Figures: the records of the tasks as words, 13 a record; the value is their number.
+#[no_mangle]
+pub extern "C" fn zuzgravel_figures(board: &[u32], records: &mut [u32], numbers: &mut [u64]) -> u32
+    ensures code { λ r. ⌜ r ≡ outcomeCode (figuresAnswer (now (board .entry)) (length (now (records .entry)) / 13)) ⌝ }
+    ensures numbers { λ _. ⌜ now (numbers .exit) ≡ fillTo (outcomeNumber (figuresAnswer (now (board .entry)) (length (now (records .entry)) / 13))) 2 (now (numbers .entry)) ⌝ }
+    ensures records { λ _. ⌜ now (records .exit) ≡ recordsAfter (now (board .entry)) (figuresRefusal (now (board .entry)) (length (now (records .entry)) / 13)) (now (records .entry)) ⌝ }
+{
+    let room = records.len() / 13;
+    let n = analysis::figures_records(board, room);
+    fill(board, n, records);
+    of_outcome(analysis::figures_outcome(board, room), numbers)
+}
+
+// Overhead: the value is γ(i, j); tasks are their numbers from 1.
+#[no_mangle]
+pub extern "C" fn zuzgravel_overhead(board: &[u32], i: usize, j: usize, numbers: &mut [u64]) -> u32
+    ensures code { λ r. ⌜ r ≡ outcomeCode (overheadAnswer (now (board .entry)) i j) ⌝ }
+    ensures numbers { λ _. ⌜ now (numbers .exit) ≡ fillTo (outcomeNumber (overheadAnswer (now (board .entry)) i j)) 2 (now (numbers .entry)) ⌝ }
+{
+    of_outcome(analysis::overhead(board, i, j), numbers)
+}
+
+// Weigh: the value is the sum of task i, a number from 1, at these times.
+#[no_mangle]
+pub extern "C" fn zuzgravel_weigh(
+    board: &[u32],
+    times: &[u32],
+    i: usize,
+    numbers: &mut [u64],
+) -> u32
+    ensures code { λ r. ⌜ r ≡ outcomeCode (weighAnswer (now (board .entry)) (now (times .entry)) i) ⌝ }
+    ensures numbers { λ _. ⌜ now (numbers .exit) ≡ fillTo (outcomeNumber (weighAnswer (now (board .entry)) (now (times .entry)) i)) 2 (now (numbers .entry)) ⌝ }
+{
+    of_outcome(analysis::weigh(board, times, i), numbers)
+}
+
+// Analyse: the settled times into `times` where they are the answer, and the records as `zuzgravel_figures` writes them unless refused.
+#[no_mangle]
+pub extern "C" fn zuzgravel_analyse(
+    board: &[u32],
+    times: &mut [u32],
+    scratch: &mut [u32],
+    records: &mut [u32],
+    numbers: &mut [u64],
+) -> u32
+    ensures code { λ r. ⌜ r ≡ answerCode (analyseAnswer (now (board .entry)) (length (now (times .entry))) (length (now (scratch .entry))) (length (now (records .entry)) / 13)) ⌝ }
+    ensures numbers { λ _. ⌜ now (numbers .exit) ≡ fillTo (answerNumber (analyseAnswer (now (board .entry)) (length (now (times .entry))) (length (now (scratch .entry))) (length (now (records .entry)) / 13))) 2 (now (numbers .entry)) ⌝ }
+    ensures times { λ _. ⌜ now (times .exit) ≡ timesAfter (now (board .entry)) (analyseAnswer (now (board .entry)) (length (now (times .entry))) (length (now (scratch .entry))) (length (now (records .entry)) / 13)) (now (times .entry)) ⌝ }
+    ensures records { λ _. ⌜ now (records .exit) ≡ recordsAfter (now (board .entry)) (analyseRefusal (now (board .entry)) (length (now (times .entry))) (length (now (scratch .entry))) (length (now (records .entry)) / 13)) (now (records .entry)) ⌝ }
+    ensures scratch { λ _. ⌜ ScratchAfter (analyseRefusal (now (board .entry)) (length (now (times .entry))) (length (now (scratch .entry))) (length (now (records .entry)) / 13)) (now (scratch .entry)) (now (scratch .exit)) ⌝ }
+    ensures demand3 { λ _. ⌜ (analyseRefusal (now (board .entry)) (length (now (times .entry))) (length (now (scratch .entry))) (length (now (records .entry)) / 13) ≡ Passed
+        → Demand3 (system (now (board .entry))) (passLimit (now (board .entry))) (analyseAnswer (now (board .entry)) (length (now (times .entry))) (length (now (scratch .entry))) (length (now (records .entry)) / 13)) (now (times .exit))) ⌝ }
+{
+    let room = records.len() / 13;
+    let n = analysis::records(board, times.len(), scratch.len(), room);
+    fill(board, n, records);
+    of_answer(analysis::settle(board, times, scratch, room), numbers)
+}

@@ -1,0 +1,61 @@
+// The figures table as 32-bit words, 13 a record.
+use figures::Figure;
+use figures::figure_of;
+ghost use mathlib.Core.Path.{_≡_};
+ghost use Prim.Native.Nat.{ℕ, _*_, _≤_, _<_};
+ghost use lib.ListN.{length};
+ghost use Rattle.folds.specs.Folds.{fillTo};
+ghost use Rattle.figures.specs.Ready.{Ready};
+ghost use Rattle.capi.specs.Records.{low, high, figureWords, recordWords};
+
+// Fills the first n records with the figures of the tasks below n. The words past them stay as they are.
+pub fn fill(board: &[u32], n: usize, records: &mut [u32])
+    requires { ⌜ ((k : ℕ) → k < n → Ready (now board) k) × (13 * n ≤ length (now records)) ⌝ }
+    ensures { λ _. ⌜ now (records .exit) ≡ fillTo (recordWords (now (board .entry))) (13 * n) (now (records .entry)) ⌝ }
+{
+    let end = 13 * n;
+    let mut words = [0u32; 13];
+    let mut w: usize = 0;
+    while w < end {
+        let at = w % 13;
+        if at == 0 {
+            words = words_of(figure_of(board, w / 13));
+        }
+        records[w] = words[at];
+        w += 1;
+    }
+}
+
+// The words of one record.
+fn words_of(f: Figure) -> [u32; 13]
+    ensures { λ r. ⌜ r ≡ figureWords f ⌝ }
+{
+    let ecb = f.ecb;
+    [
+        f.core,
+        f.period,
+        f.deadline,
+        f.pd,
+        f.md,
+        low_half(ecb[0]),
+        high_half(ecb[0]),
+        low_half(ecb[1]),
+        high_half(ecb[1]),
+        low_half(ecb[2]),
+        high_half(ecb[2]),
+        low_half(ecb[3]),
+        high_half(ecb[3]),
+    ]
+}
+
+fn low_half(x: u64) -> u32
+    ensures { λ r. ⌜ r ≡ low x ⌝ }
+{
+    (x % 4294967296) as u32
+}
+
+fn high_half(x: u64) -> u32
+    ensures { λ r. ⌜ r ≡ high x ⌝ }
+{
+    (x / 4294967296) as u32
+}
