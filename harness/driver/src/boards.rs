@@ -1,0 +1,82 @@
+//! Boards for the two commands: random ones of every kind, extreme ones, damaged ones.
+use oracle::board::MAX_PERIOD;
+use oracle::generate::*;
+
+pub fn bytes_of(words: &[u32]) -> Vec<u8> {
+    words.iter().flat_map(|w| w.to_le_bytes()).collect()
+}
+
+/// The words of a whole number of words.
+pub fn words_of(bytes: &[u8]) -> Option<Vec<u32>> {
+    if bytes.len() % 4 != 0 {
+        return None;
+    }
+    Some(bytes.chunks_exact(4).map(|c| u32::from_le_bytes([c[0], c[1], c[2], c[3]])).collect())
+}
+
+/// Document 01's board K1.
+pub fn k1() -> Vec<u32> {
+    vec![
+        2, 2, 2, 3, 0, 3, 1, 5, 0, 0, 0, 0, 100, 0, 0, 0, 0, 0, 0, 0, 1, 100, 100, 1, 0, 2, 60, 60, 1, 0, 2, 1, 0, 1, 2, 131072,
+        268664832, 537165825,
+    ]
+}
+
+/// A random board; the number picks bus, memory and refresh form in turn.
+pub fn random(r: &mut Rng, number: usize) -> Vec<u32> {
+    let (bus, memory, refresh) = (number as u32 % 5, number as u32 / 5 % 3, number as u32 / 15 % 3);
+    let mut s = shape(r, 0, memory, bus, refresh);
+    if s.tasks > 24 && !r.chance(10) {
+        s.tasks = 1 + s.tasks % 24;
+    }
+    let mut w = match number / 45 % 4 {
+        0 | 1 => tuned_board(r, s, true),
+        2 => tuned_board(r, s, false),
+        _ => wild_board(r, s),
+    };
+    // mostly a limit of its own size, so that spent boards and boards at their limit occur
+    if r.chance(40) {
+        w[12] = r.range(1, 12);
+    }
+    w
+}
+
+/// Boards at the ends of every range.
+pub fn extreme(r: &mut Rng) -> Vec<u32> {
+    let cores = r.pick(&[1u32, 2, 8]);
+    let n = r.pick(&[1u32, 2, 8, 9, 16, 64]);
+    let (bus, memory, refresh) = (r.range(0, 4), r.range(0, 2), r.range(0, 2));
+    let most = ((16_384 - 20 - 6 * n) / 2 / n).min(1024);
+    let len = if r.chance(5) { most } else { r.range(1, most.min(30)) };
+    let mut w = vec![0u32; 20];
+    (w[0], w[1], w[2], w[3], w[4], w[5]) = (cores, n, n, n * len, memory, bus);
+    w[6] = if bus >= 3 { r.pick(&[1, 8]) } else { 0 };
+    w[7] = r.pick(&[1, 255]);
+    w[8] = refresh;
+    if refresh != 0 {
+        (w[9], w[10], w[11]) = (r.pick(&[1, MAX_PERIOD]), r.pick(&[1, 65_535]), r.pick(&[0, 255]));
+    }
+    w[12] = r.pick(&[1, 2, 5, 40]);
+    match memory {
+        0 => {}
+        1 => (w[13], w[14]) = r.pick(&[(0, 0), (32_768, 32_768), (32_767, 32_767)]),
+        _ => w[13] = r.pick(&[1, 2, 64, 65, 255, 256]),
+    }
+    for _ in 0..n {
+        let t = r.pick(&[1, 2, MAX_PERIOD - 1, MAX_PERIOD]);
+        let d = if r.chance(70) { t } else { r.range(1, t) };
+        let core = if r.chance(60) { r.pick(&[1, cores]) } else { r.range(1, cores) };
+        w.extend([core, t, d, 1, 0]);
+    }
+    w.extend(vec![len; n as usize]);
+    let span = r.pick(&[1u32, 300, 32_767]);
+    for _ in 0..n * len {
+        w.push(r.range(0, span));
+    }
+    for _ in 0..n * len {
+        let kind = r.range(0, 2);
+        let block = if kind == 0 { 0 } else { 32_768 + r.range(0, span) };
+        w.push((kind << 28) | (r.pick(&[0, 1, 4095]) << 16) | block);
+    }
+    w
+}
