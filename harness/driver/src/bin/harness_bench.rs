@@ -80,14 +80,16 @@ fn whole(rounds: usize, what: &str, w: &[u32]) -> f64 {
     line(&format!("{what}, {} passes", passes(w)), t)
 }
 
+/// The figures of all tasks, and the overheads of all pairs: Overhead of the last task computes every row. The checks, which Figures makes twice and
+/// Overhead once, are taken off.
 fn prepare(rounds: usize, what: &str, w: &[u32]) -> f64 {
-    // the product's figures, and the overheads of every pair, are what Analyse with a limit of 1 does besides one pass
-    let v = limited(w, 1);
-    let b = check_board(&v, RULES).unwrap();
+    let b = check_board(w, RULES).unwrap();
+    let n = b.n();
     let (mut x, mut y) = (Buffers::new(), Buffers::new());
-    let check = race(rounds, || library::overhead(black_box(&v), 0, 0), || check_board(black_box(&v), RULES).is_ok());
-    let all = race(rounds, || x.product(&v), || fast::prepare_only(black_box(&b), &mut y.table));
-    line(what, (all.0 - check.0, all.1))
+    let check = race(rounds, || library::overhead(black_box(w), 0, 0), || ()).0;
+    let figures = race(rounds, || library::figures(black_box(w), &mut x.records), || ()).0;
+    let both = race(rounds, || library::overhead(black_box(w), n, 1), || fast::prepare_only(black_box(&b), &mut y.table));
+    line(what, (figures + both.0 - 3.0 * check, both.1))
 }
 
 fn main() {
@@ -107,7 +109,7 @@ fn main() {
         let t = race(rounds, || library::overhead(black_box(&w), 0, 0), || check_board(black_box(&w), RULES).is_ok());
         line(&format!("  {} words, memory {memory}", w.len()), t);
     }
-    println!("figures and the table of overheads, with one pass, against `fast`");
+    println!("figures and the table of overheads, against `fast`");
     for (n, cores) in [(64, 1), (64, 8)] {
         for memory in 0..3 {
             prepare(rounds, &format!("  {n} tasks on {cores} cores, 8 traces each, memory {memory}"), &largest_edge(78, memory, 2, cores, 0));
