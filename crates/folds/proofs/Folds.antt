@@ -93,7 +93,8 @@ sumTo-but f g (suc n) s l same =
 
 -- ---- `sumWhere`
 
-pub sumWhere-mono : (test : ℕ → Bool) (f g : ℕ → ℕ) (n : ℕ) → ((k : ℕ) → k < n → f k ≤ g k) → sumWhere test f n ≤ sumWhere test g n
+-- the terms rise where the test passes
+pub sumWhere-mono : (test : ℕ → Bool) (f g : ℕ → ℕ) (n : ℕ) → ((k : ℕ) → k < n → test k ≡ true → f k ≤ g k) → sumWhere test f n ≤ sumWhere test g n
 sumWhere-mono test f g n all = sumTo-mono _ _ n (λ k h. when-mono (test k) (all k h))
 
 pub sumWhere-bound : (test : ℕ → Bool) (f : ℕ → ℕ) (n m : ℕ) → ((k : ℕ) → k < n → f k ≤ m) → sumWhere test f n ≤ n * m

@@ -52,8 +52,8 @@ ceilDiv-self a (suc b) = le-of-suc-le-suc (div-lt-iff-lt-mul (zero-lt-suc b) .1 
 
 -- ---- Laws of `when`
 
-pub when-mono : (test : Bool) {a b : ℕ} → a ≤ b → when test a ≤ when test b
-when-mono true h = h
+pub when-mono : (test : Bool) {a b : ℕ} → (test ≡ true → a ≤ b) → when test a ≤ when test b
+when-mono true h = h refl
 when-mono false h = zero-le
 
 pub when-bound : (test : Bool) {a m : ℕ} → a ≤ m → when test a ≤ m

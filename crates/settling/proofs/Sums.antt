@@ -9,4 +9,4 @@ use Rattle.settling.specs.System.{system}
 
 -- the sums of a board never fall when times rise
 pub system-ascending : (b : List ℕ) → Ascending (system b) (pass (system b))
-system-ascending b = pass-ascending (system b) (λ R R' le i task. taskSum-mono b R R' le i task)
+system-ascending b = pass-ascending (system b) (λ R R' le i task. taskSum-mono b R R' i task (le i task) (λ _ k l _. le k l))

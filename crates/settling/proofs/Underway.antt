@@ -1,11 +1,12 @@
 -- What the loop over passes knows before each of them, and what it ends with.
 -- Assumes nothing.
 use Prim.Native.Nat.{ℕ, _+_, _-_, _*_, _≤_, _<_}
+use mathlib.Core.Bool.{Bool, true}
 use mathlib.Core.List.{List}
 use mathlib.Core.Path.{_≡_, refl, sym, ap, subst₂, _∙_}
 use native.Mathlib.Nat.{sub-self}
 use native.Mathlib.Omega.{arith}
-use lib.ListN.{length, getD, take}
+use lib.ListN.{length, getD, take, replicate}
 use Rattle.folds.specs.Folds.{fillTo}
 use Rattle.folds.proofs.Lists.{length-fillTo}
 use Rattle.passes.specs.Passes.{System, capped, pass, passesNeeded}
@@ -16,20 +17,23 @@ use Rattle.scratch.proofs.Stored.{filled-stored}
 use Rattle.scratch.proofs.Prepared.{prepared-stored}
 use Rattle.settling.specs.declared.Passes.the-variants.{Needed, Over}
 use Rattle.settling.specs.System.{system}
+use Rattle.settling.specs.Kept.{Told, Kept}
 use Rattle.settling.specs.Settling.{Startable, passesOf, Ended}
 use Rattle.settling.proofs.Sums.{system-ascending}
 use Rattle.settling.proofs.Halves.{passing-cleared, front, agree, stands, advanced}
+use Rattle.settling.proofs.Kept.{kept-none, kept-next}
 use Rattle.settling.proofs.Ends.{passes-over, passes-needed}
 
--- `left` passes of the limit are left: the others were made, each of which changed a time
-pub record Underway (b : List ℕ) (n limit : ℕ) (w₀ w : List ℕ) (left : ℕ) : Type 0 where
+-- `left` passes of the limit are left: the others were made, each of which changed a time; tasks that read no moved time have their next times
+pub record Underway (b : List ℕ) (n limit : ℕ) (w₀ w : List ℕ) (left : ℕ) (moved : List Bool) (all : ℕ) : Type 0 where
   pub within : left ≤ limit
   pub size : length w ≡ length w₀
   pub so-far : Passing (system b) (pass (system b)) (limit - left) (take n w)
   pub prepared : Prepared b n w
+  pub kept : Kept b n w moved all
 
 -- all times are 0
-pub underway-start : {b : List ℕ} {n : ℕ} {w₀ w : List ℕ} (limit : ℕ) → Prepared b n w₀ → w ≡ fillTo (λ k. 0) n w₀ → Underway b n limit w w limit
+pub underway-start : {b : List ℕ} {n : ℕ} {w₀ w : List ℕ} (limit : ℕ) → Prepared b n w₀ → w ≡ fillTo (λ k. 0) n w₀ → Underway b n limit w w limit (replicate 64 true) 9
 underway-start {b} {n} {w₀} {w} limit ready cleared =
     let room : n * n + 4 * n ≤ length w₀ = ready .room .words in
     record {
@@ -37,9 +41,10 @@ underway-start {b} {n} {w₀} {w} limit ready cleared =
       size = refl;
       so-far = rw (sub-self limit) (passing-cleared (system b) w₀ (ready .room .tasks) (omega arith) cleared);
       prepared = prepared-stored ready (filled-stored cleared (omega arith)) (omega arith);
+      kept = kept-none b n w 9 (omega (arith, ready .room .sound .tasks .1, ready .room .tasks));
     }
 
-module _ {b : List ℕ} {n limit : ℕ} {w₀ w : List ℕ} {left : ℕ} (u : Underway b n limit w₀ w left) where
+module _ {b : List ℕ} {n limit : ℕ} {w₀ w : List ℕ} {left : ℕ} {moved : List Bool} {all : ℕ} (u : Underway b n limit w₀ w left moved all) where
   pub underway-startable : Startable b n w
   underway-startable = record { prepared = u .prepared; capped = passing-capped (system-ascending b) (u .so-far) }
 
@@ -61,16 +66,17 @@ module _ {b : List ℕ} {n limit : ℕ} {w₀ w : List ℕ} {left : ℕ} (u : Un
     count = omega (arith, u .within)
 
     -- and changed a time
-    pub underway-next : {i : ℕ} {next : List ℕ} → i < n → (getD new i 0 ≡ getD new (n + i) 0 → ⊥)
-        → next ≡ fillTo (λ k. getD new (n + k) 0) n new → Underway b n limit w₀ next (left - 1)
-    underway-next {i} {next} h differ moved =
+    pub underway-next : {i : ℕ} {next : List ℕ} {moved' : List Bool} {all' : ℕ} → i < n → (getD new i 0 ≡ getD new (n + i) 0 → ⊥)
+        → next ≡ fillTo (λ k. getD new (n + k) 0) n new → Told b n new moved' all' n → Underway b n limit w₀ next (left - 1) moved' all'
+    underway-next {i} {next} h differ advance told =
         let S = system b in
         record {
           within = omega (arith, u .within);
-          size = ap length moved ∙ length-fillTo (λ k. getD new (n + k) 0) new n ∙ made .size ∙ u .size;
-          so-far = subst₂ (λ (p : ℕ) (R : List ℕ). Passing S (pass S) p R) count (sym (advanced S tasks room made moved))
+          size = ap length advance ∙ length-fillTo (λ k. getD new (n + k) 0) new n ∙ made .size ∙ u .size;
+          so-far = subst₂ (λ (p : ℕ) (R : List ℕ). Passing S (pass S) p R) count (sym (advanced S tasks room made advance))
               (passing-more (u .so-far) (λ e. differ (agree S tasks room made e i h)));
-          prepared = prepared-stored (prepared-stored (u .prepared) made (omega arith)) (filled-stored moved (omega (arith, made .size, room))) (omega arith);
+          prepared = prepared-stored (prepared-stored (u .prepared) made (omega arith)) (filled-stored advance (omega (arith, made .size, room))) (omega arith);
+          kept = kept-next (u .prepared .room) made advance told;
         }
 
     -- and changed none

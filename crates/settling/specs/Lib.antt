@@ -1,3 +1,4 @@
 -- The passes of a board.
 pub mod System
+pub mod Kept
 pub mod Settling

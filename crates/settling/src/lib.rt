@@ -1,6 +1,8 @@
 // The passes of a board, over a prepared scratch.
+mod due;
 mod pass;
 
+use due::Moved;
 use pass::advance;
 use pass::clear;
 use pass::make_pass;
@@ -24,12 +26,16 @@ pub fn run(board: &[u32], n: usize, limit: u32, scratch: &mut [u32]) -> Passes
 {
     clear(n, scratch);
     let mut left = limit;
+    let mut moved = Moved {
+        tasks: [true; 64],
+        core: 9,
+    };
     'passes: loop {
         if left == 0 {
             break Passes::Over;
         }
         left -= 1;
-        make_pass(board, n, scratch);
+        make_pass(board, n, moved, scratch);
         let mut i = 0;
         'compare: loop {
             if i == n {
@@ -41,6 +47,6 @@ pub fn run(board: &[u32], n: usize, limit: u32, scratch: &mut [u32]) -> Passes
             }
             i += 1;
         }
-        advance(n, scratch);
+        moved = advance(board, n, scratch);
     }
 }

@@ -1,11 +1,16 @@
 // One pass over the times of a prepared scratch.
+use crate::due::Moved;
+use crate::due::is_due;
+use crate::due::joined;
 ghost use mathlib.Core.Path.{_≡_};
-ghost use Prim.Native.Nat.{_+_, _*_, _<_, _≤_};
+ghost use Prim.Native.Nat.{_+_, _<_, _≤_};
 ghost use lib.ListN.{length, getD, take};
 ghost use Rattle.folds.specs.Folds.{fillTo};
 ghost use Rattle.passes.specs.Passes.{capped};
 ghost use Rattle.scratch.specs.Stored.{Stored};
+ghost use Rattle.scratch.specs.Scratch.{Room};
 ghost use Rattle.settling.specs.System.{system};
+ghost use Rattle.settling.specs.Kept.{Told, Kept};
 ghost use Rattle.settling.specs.Settling.{Startable};
 
 // The next time of task i: its sum, or D + 1 where the sum is larger.
@@ -19,15 +24,17 @@ fn next_time(board: &[u32], n: usize, scratch: &[u32], i: usize) -> u32
     time as u32
 }
 
-// One pass: the n words from n on become the next times of the first n words.
-pub fn make_pass(board: &[u32], n: usize, scratch: &mut [u32])
-    requires { ⌜ Startable (now board) n (now scratch) ⌝ }
+// One pass: the n words from n on become the next times of the first n words. The next times of tasks that read no moved time
+// are there already.
+pub fn make_pass(board: &[u32], n: usize, moved: Moved, scratch: &mut [u32])
+    requires { ⌜ (Startable (now board) n (now scratch)) × Kept (now board) n (now scratch) (moved .tasks) (moved .core) ⌝ }
     ensures { λ _. ⌜ Stored (capped (system (now (board .entry))) (take n (now (scratch .entry)))) n n (now (scratch .entry)) (now (scratch .exit)) ⌝ }
 {
     let mut i = 0;
     while i < n {
-        let time = next_time(board, n, scratch, i);
-        scratch[n + i] = time;
+        if is_due(moved.tasks[i], moved.core, board::fields::core(board, i)) {
+            scratch[n + i] = next_time(board, n, scratch, i);
+        }
         i += 1;
     }
 }
@@ -44,14 +51,27 @@ pub fn clear(n: usize, words: &mut [u32])
     }
 }
 
-// Moves the n words from n on to the front.
-pub fn advance(n: usize, words: &mut [u32])
-    requires { ⌜ 2 * n ≤ length (now words) ⌝ }
+// Moves the n words from n on to the front, and tells which of the n words there this changed.
+pub fn advance(board: &[u32], n: usize, words: &mut [u32]) -> Moved
+    requires { ⌜ Room (now board) n (now words) ⌝ }
     ensures { λ _. ⌜ now (words .exit) ≡ fillTo (λ k. getD (now (words .entry)) (n + k) 0) n (now (words .entry)) ⌝ }
+    ensures { λ r. ⌜ Told (now (board .entry)) n (now (words .entry)) (r .tasks) (r .core) n ⌝ }
 {
+    let mut tasks = [false; 64];
+    let mut all: u32 = 0;
     let mut k = 0;
     while k < n {
-        words[k] = words[n + k];
+        let time = words[k];
+        let next = words[n + k];
+        words[k] = next;
+        if time != next {
+            tasks[k] = true;
+            all = joined(board, all, k);
+        }
         k += 1;
+    }
+    Moved {
+        tasks: tasks,
+        core: all,
     }
 }

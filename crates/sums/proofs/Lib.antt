@@ -1,5 +1,6 @@
 -- The laws of a task's sum.
 pub mod Rising
+pub mod TimesRead
 pub mod Printed
 pub mod Numbers
 pub mod Windows

@@ -40,7 +40,7 @@ module _ (t : Trace) where
   held-bound : (high : ℕ) → countTo (λ p. reads t p && leb high (dataBlock t p)) (t .len) ≤ countTo (reads t) (t .len)
   unfolding countTo
   held-bound high =
-      sumTo-mono _ _ (t .len) (λ p h. rw (when-and (reads t p) (leb high (dataBlock t p)) 1) (when-mono (reads t p) (when-bound (leb high (dataBlock t p)) (omega arith))))
+      sumTo-mono _ _ (t .len) (λ p h. rw (when-and (reads t p) (leb high (dataBlock t p)) 1) (when-mono (reads t p) (λ e. when-bound (leb high (dataBlock t p)) (omega arith))))
 
   busLoads-bound : (m : ℕ) → busLoads t m ≤ t .len + countTo (reads t) (t .len)
   unfolding busLoads missCount

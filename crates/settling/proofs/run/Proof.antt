@@ -6,6 +6,7 @@ use native.Mathlib.Omega.{arith}
 use lib.ListN.{getD}
 use borrow.Author.Count.{below-more}
 use borrow.Author.Needs.{needs}
+use Rattle.scratch.proofs.Prepared.{room-kept}
 use Rattle.settling.proofs.Underway.{Underway, underway-start, underway-startable, underway-over, underway-next, underway-still, ended-cleared}
 use Rattle.settling.proofs.run.Statement.{statement}
 use Rattle.settling.proofs.run.Tie as tie
@@ -17,10 +18,10 @@ abbrev μ-compare : tie.MeasureT-compare
 μ-compare board n limit scratch left i₀ i = n - i
 
 abbrev Inv-passes : tie.InvT-passes
-Inv-passes board n limit scratch₀ left₀ scratch left = Underway board n limit scratch₀ scratch left
+Inv-passes board n limit scratch₀ left₀ moved₀ scratch left moved = Underway board n limit scratch₀ scratch left (moved .tasks) (moved .core)
 
 abbrev μ-passes : tie.MeasureT-passes
-μ-passes board n limit scratch₀ left₀ scratch left = left
+μ-passes board n limit scratch₀ left₀ moved₀ scratch left moved = left
 
 -- the loop's head, and after a pass
 abbrev Head : Type 0
@@ -43,7 +44,7 @@ run-spec =
     (λ c κs. search needs)
     (λ c. let s = c .before .before .before .before .before .before in underway-start (s .args .limit) (s .pre) (c .before .before .clear .ensures))
     (λ c. search needs)
-    (λ c κs. underway-startable (c .before .before .passes .inv))
+    (λ c κs. let u = c .before .before .passes .inv in (underway-startable u, u .kept))
     (λ c. search needs)
     (λ c. search needs)
     (λ c. search needs)
@@ -54,12 +55,15 @@ run-spec =
     (λ c. search needs)
     (λ c. search needs)
     (λ c. let k = c .before .before .before .before .compare in (omega arith, below-more _ (k .i) (k .inv .1) (c .if3 .left)))
-    (λ c κs. search needs)
+    (λ c κs.
+    let m = c .before .before .before .before .before .before .before .before in
+    room-kept (head-of m .passes .inv .prepared .room) (m .make-pass .ensures .size))
     (λ c. search needs)
     (λ c.
     let differ = c .before .before .before .before in
     let m = differ .before .before .before .before .before .before .before in
-    underway-next (head-of m .passes .inv) (omega arith) (m .make-pass .ensures) (omega arith) (differ .if3 .taken) (c .before .before .advance .ensures))
+    underway-next (head-of m .passes .inv) (omega arith) (m .make-pass .ensures) (omega arith) (differ .if3 .taken)
+    (c .before .before .advance .ensures .0) (c .before .before .advance .ensures .1))
     (λ c. search needs)
     (λ c.
     let h = c .before in

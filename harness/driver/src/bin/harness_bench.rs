@@ -80,16 +80,15 @@ fn whole(rounds: usize, what: &str, w: &[u32]) -> f64 {
     line(&format!("{what}, {} passes", passes(w)), t)
 }
 
-/// The figures of all tasks, and the overheads of all pairs: Overhead of the last task computes every row. The checks, which Figures makes twice and
-/// Overhead once, are taken off.
+/// The figures of all tasks and the overheads of all pairs, as Analyse makes them: a run with a limit of one pass, less its checks. The one pass
+/// stays in the product's time.
 fn prepare(rounds: usize, what: &str, w: &[u32]) -> f64 {
     let b = check_board(w, RULES).unwrap();
-    let n = b.n();
+    let one = limited(w, 1);
     let (mut x, mut y) = (Buffers::new(), Buffers::new());
     let check = race(rounds, || library::overhead(black_box(w), 0, 0), || ()).0;
-    let figures = race(rounds, || library::figures(black_box(w), &mut x.records), || ()).0;
-    let both = race(rounds, || library::overhead(black_box(w), n, 1), || fast::prepare_only(black_box(&b), &mut y.table));
-    line(what, (figures + both.0 - 3.0 * check, both.1))
+    let both = race(rounds, || x.product(&one), || fast::prepare_only(black_box(&b), &mut y.table));
+    line(what, (both.0 - check, both.1))
 }
 
 fn main() {

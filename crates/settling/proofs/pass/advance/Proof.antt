@@ -1,25 +1,50 @@
 -- `settling::pass::advance` meets its contract: a word that is read has not been written yet.
 -- Assumes nothing.
-use Prim.Native.Nat.{ℕ, _+_, _-_}
+use Prim.Native.Nat.{ℕ, _+_, _-_, _≤_, _<_}
+use mathlib.Core.Bool.{true}
 use mathlib.Core.List.{List}
-use mathlib.Core.Path.{ap, _∙_}
+use mathlib.Core.Logic.{⊎-elim}
+use mathlib.Core.Path.{_≡_, refl, sym, subst, ap, _∙_}
+use native.Mathlib.Nat.{le-antisymm}
 use native.Mathlib.Omega.{arith}
-use lib.ListN.{getD}
+use lib.ListN.{length, getD, length-set}
 use borrow.Author.Needs.{needs}
 use Rattle.folds.proofs.Lists.{fillTo-from}
 use Rattle.scratch.proofs.Filled.{Filled, filled-none, filled-next, filled-all}
+use Rattle.settling.specs.Kept.{Told}
+use Rattle.settling.proofs.Kept.{told-none, told-still, told-moved}
 use Rattle.settling.proofs.pass.advance.Statement.{statement}
 use Rattle.settling.proofs.pass.advance.Tie as tie
 
--- the words from n on
-abbrev moved : ℕ → List ℕ → ℕ → ℕ
-moved n words k = getD words (n + k) 0
+-- the next time of task k
+abbrev next : ℕ → List ℕ → ℕ → ℕ
+next n words k = getD words (n + k) 0
 
 abbrev Inv-loop : tie.InvT-loop
-Inv-loop n words₀ k₀ words k = Filled (moved n words₀) n words₀ words k
+Inv-loop board n words₀ tasks₀ all₀ k₀ words tasks all k = Filled (next n words₀) n words₀ words k × Told board n words₀ tasks all k × (length tasks ≡ 64)
 
 abbrev μ-loop : tie.MeasureT-loop
-μ-loop n words₀ k₀ words k = n - k
+μ-loop board n words₀ tasks₀ all₀ k₀ words tasks all k = n - k
+
+-- a word that was not written yet
+unwritten : (n : ℕ) (words₀ words : List ℕ) {k : ℕ} → Filled (next n words₀) n words₀ words k → (j : ℕ) → k ≤ j → getD words j 0 ≡ getD words₀ j 0
+unwritten n words₀ words {k} so-far j h = ap (λ (w : List ℕ). getD w j 0) (so-far .holds) ∙ fillTo-from (next n words₀) words₀ 0 k j h
+
+again : tie.Need-loop-again Inv-loop μ-loop
+again c =
+    let a = c .before .before .before .before .before .before .before .args in
+    let l = c .before .before .before .before .loop in
+    let read = unwritten (a .n) (a .words .now) (l .words) (l .inv .0) in
+    let filled = filled-next (l .inv .0) (omega arith) (read (a .n + l .k) (omega arith)) in
+    let ready = c .before .before .before .before .before .before .before .pre in
+    ⊎-elim
+    (λ came.
+    let room : l .k < length (l .tasks) = omega (arith, l .inv .2, ready .sound .tasks .1, ready .tasks) in
+    (filled, rw (came .2, came .3) (told-moved (l .inv .1) room (came .1 .ensures)), ap length (came .2) ∙ length-set (l .tasks) (l .k) true ∙ l .inv .2))
+    (λ came.
+    let same = sym (read (l .k) (omega arith)) ∙ came .0 .left ∙ read (a .n + l .k) (omega arith) in
+    (filled, rw (came .1, came .2) (told-still (l .inv .1) same), ap length (came .1) ∙ l .inv .2))
+    (c .if1 .came)
 
 pub advance-spec : {M : Type 1} → statement M
 advance-spec =
@@ -27,19 +52,20 @@ advance-spec =
     (tie.spec
     Inv-loop
     μ-loop
-    (λ c. filled-none)
+    (λ c. (filled-none, told-none _ _, refl))
     (λ c. search needs)
     (λ c. search needs)
     (λ c. search needs)
     (λ c. search needs)
     (λ c. search needs)
     (λ c. search needs)
+    (λ c. search needs)
+    (λ c. let ready = c .before .before .before .before .before .before .before .pre in omega (arith, ready .sound .tasks .1, ready .tasks))
+    (λ c κs. let ready = c .before .before .before .before .before .before .before .pre in (ready .sound, omega (arith, ready .tasks)))
+    (λ c. search needs)
+    (λ c. search needs)
+    again
     (λ c. search needs)
     (λ c.
-    let a = c .before .before .before .args in
-    let l = c .before .before .loop in
-    filled-next (l .inv) (omega arith)
-    (ap (λ (w : List ℕ). getD w (a .n + l .k) 0) (l .inv .holds)
-    ∙ fillTo-from (moved (a .n) (a .words .now)) (a .words .now) 0 (l .k) (a .n + l .k) (omega arith)))
-    (λ c. search needs)
-    (λ c. filled-all (c .before .loop .inv) (c .loop-test .left)))
+    let l = c .before .loop in
+    (filled-all (l .inv .0) (c .loop-test .left), subst (Told _ _ _ _ _) (le-antisymm (l .inv .0 .upto) (c .loop-test .left)) (l .inv .1))))

@@ -2,7 +2,8 @@
 -- Assumes nothing.
 use Prim.Native.Nat.{ℕ, _-_, _≤_}
 use mathlib.Core.List.{List}
-use mathlib.Core.Path.{ap, _∙_}
+use mathlib.Core.Logic.{⊎-elim}
+use mathlib.Core.Path.{subst, ap, _∙_}
 use native.Mathlib.Omega.{arith}
 use lib.ListN.{take}
 use borrow.Author.Needs.{needs}
@@ -10,15 +11,35 @@ use Rattle.passes.specs.Passes.{capped}
 use Rattle.scratch.specs.Stored.{Stored}
 use Rattle.scratch.proofs.Stored.{stored-none, stored-next, stored-all}
 use Rattle.settling.specs.System.{system}
+use Rattle.settling.specs.Kept.{Within}
 use Rattle.settling.proofs.Halves.{startable-stored, times-kept}
+use Rattle.settling.proofs.Kept.{stored-kept}
 use Rattle.settling.proofs.pass.make_pass.Statement.{statement}
 use Rattle.settling.proofs.pass.make_pass.Tie as tie
 
 abbrev Inv-loop : tie.InvT-loop
-Inv-loop board n scratch₀ i₀ scratch i = (i ≤ n) × Stored (capped (system board) (take n scratch₀)) n i scratch₀ scratch
+Inv-loop board n scratch₀ moved i₀ scratch i = (i ≤ n) × Stored (capped (system board) (take n scratch₀)) n i scratch₀ scratch
 
 abbrev μ-loop : tie.MeasureT-loop
-μ-loop board n scratch₀ i₀ scratch i = n - i
+μ-loop board n scratch₀ moved i₀ scratch i = n - i
+
+-- task i was computed, or had its next time already
+again : tie.Need-loop-again Inv-loop μ-loop
+again c =
+    let s = c .before .before .before .before .before .before .before .before in
+    let l = c .before .before .before .before .before .loop in (
+      omega arith,
+      ⊎-elim
+          (λ came.
+          rw (came .3)
+          (stored-next _ _ _ (l .inv .1) (omega (arith, s .pre .0 .prepared .room .words))
+          (came .2 .ensures ∙ ap (λ (R : List ℕ). capped (system (s .args .board .now)) R (l .i)) (times-kept (s .pre .0) (l .inv .1)))))
+          (λ came.
+          let left = c .before .is-due .ensures (came .0 .left) in
+          let core = c .before .before .core .ensures .0 in
+          rw (came .1) (stored-kept (l .inv .1) (s .pre .1 (l .i) (omega arith) (left .0) (subst (Within _) core (left .1)))))
+          (c .if1 .came),
+    )
 
 pub make-pass-spec : {M : Type 1} → statement M
 make-pass-spec =
@@ -27,21 +48,17 @@ make-pass-spec =
     Inv-loop
     μ-loop
     (λ c. (omega arith, stored-none _ _ _))
+    (λ c. let room = c .before .before .before .before .pre .0 .prepared .room in omega (arith, room .sound .tasks .1, room .tasks))
+    (λ c κs. let room = c .before .before .before .before .before .pre .0 .prepared .room in (room .sound, omega (arith, room .tasks)))
+    (λ c κs. search needs)
     (λ c κs.
-    let l = c .before .before .loop in
-    (startable-stored (c .before .before .before .before .before .pre) (l .inv .1) (l .inv .0), omega arith))
+    let l = c .before .before .before .before .before .before .loop in
+    (startable-stored (c .before .before .before .before .before .before .before .before .before .pre .0) (l .inv .1) (l .inv .0), omega arith))
     (λ c. search needs)
     (λ c. search needs)
     (λ c. search needs)
     (λ c. search needs)
     (λ c. search needs)
-    (λ c.
-    let s = c .before .before .before .before .before .before in
-    let l = c .before .before .before .loop in (
-      omega arith,
-      stored-next _ _ _ (l .inv .1) (omega arith)
-          (c .next-time .ensures
-          ∙ ap (λ (R : List ℕ). capped (system (s .args .board .now)) R (l .i)) (times-kept (s .pre) (l .inv .1))),
-    ))
+    again
     (λ c. search needs)
     (λ c. let l = c .before .loop in stored-all _ _ _ (l .inv .1) (l .inv .0) (omega arith)))
