@@ -50,11 +50,14 @@ module _ {b : List ℕ} {n : ℕ} {w : List ℕ} where
   told-none moved all = record { own = λ k h. absurd (omega arith); others = λ _ x _ _ k h. absurd (omega arith) }
 
   module _ {moved : List Bool} {all k : ℕ} (so-far : Told b n w moved all k) where
+    below : (v : Bool) (j : ℕ) → j < k → getD (set moved k v) j false ≡ false → getD w j 0 ≡ getD w (n + j) 0
+    below v j l e = so-far .own j l (sym (getD-set-other moved k j v false (λ same. omega arith)) ∙ e)
+
     -- it did not move
-    pub told-still : getD w k 0 ≡ getD w (n + k) 0 → Told b n w moved all (k + 1)
+    pub told-still : getD w k 0 ≡ getD w (n + k) 0 → Told b n w (set moved k false) all (k + 1)
     told-still e =
         record {
-          own = λ j h. below-suc (λ j. getD moved j false ≡ false → getD w j 0 ≡ getD w (n + j) 0) k (so-far .own) (λ _. e) j (omega arith);
+          own = λ j h. below-suc (λ j. getD (set moved k false) j false ≡ false → getD w j 0 ≡ getD w (n + j) 0) k (below false) (λ _. e) j (omega arith);
           others = λ some x few within j h.
               below-suc (λ j. (core b j ≡ x → ⊥) → getD w j 0 ≡ getD w (n + j) 0) k (so-far .others some x few within) (λ _. e) j (omega arith);
         }
@@ -65,7 +68,7 @@ module _ {b : List ℕ} {n : ℕ} {w : List ℕ} where
         record {
           own = λ j h.
               below-suc (λ j. getD (set moved k true) j false ≡ false → getD w j 0 ≡ getD w (n + j) 0) k
-              (λ j l e. so-far .own j l (sym (getD-set-other moved k j true false (λ same. omega arith)) ∙ e))
+              (below true)
               (λ e. absurd (false≢true (sym e ∙ getD-set-same moved k true false room))) j (omega arith);
           others = λ some x few within j h.
               let both = joined some x few within in

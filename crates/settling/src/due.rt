@@ -1,4 +1,5 @@
-// The tasks that a pass has to compute: those that read a time which the pass before it moved.
+// The tasks that a pass has to compute: those that read a time which the pass before it moved. Known of these times is which they are, and
+// the core that their tasks are all on: 9 where they are on more than one, and 0 where there is none that a task on another core reads.
 use board::fields::bus;
 use board::fields::core;
 ghost use mathlib.Core.Bool.{false};
@@ -7,13 +8,6 @@ ghost use Prim.Native.Nat.{_<_};
 ghost use Rattle.board.specs.Layout as at;
 ghost use Rattle.board.specs.Sound.{Sound};
 ghost use Rattle.settling.specs.Kept.{Within, Joined};
-
-// The tasks whose times a pass moved, and the core that they are all on: 9 where they are on more than one, and 0 where there
-// is none that a task on another core reads.
-pub struct Moved {
-    pub tasks: [bool; 64],
-    pub core: u32,
-}
 
 // Whether a task on core x has to be computed, by whether its own time moved and the core of all that did.
 pub fn is_due(own: bool, all: u32, x: u32) -> bool

@@ -2,7 +2,6 @@
 mod due;
 mod pass;
 
-use due::Moved;
 use pass::advance;
 use pass::clear;
 use pass::make_pass;
@@ -26,16 +25,14 @@ pub fn run(board: &[u32], n: usize, limit: u32, scratch: &mut [u32]) -> Passes
 {
     clear(n, scratch);
     let mut left = limit;
-    let mut moved = Moved {
-        tasks: [true; 64],
-        core: 9,
-    };
+    let mut moved = [true; 64];
+    let mut all: u32 = 9;
     'passes: loop {
         if left == 0 {
             break Passes::Over;
         }
         left -= 1;
-        make_pass(board, n, moved, scratch);
+        make_pass(board, n, &moved, all, scratch);
         let mut i = 0;
         'compare: loop {
             if i == n {
@@ -47,6 +44,6 @@ pub fn run(board: &[u32], n: usize, limit: u32, scratch: &mut [u32]) -> Passes
             }
             i += 1;
         }
-        moved = advance(board, n, scratch);
+        all = advance(board, n, &mut moved, scratch);
     }
 }

@@ -1,5 +1,4 @@
 // One pass over the times of a prepared scratch.
-use crate::due::Moved;
 use crate::due::is_due;
 use crate::due::joined;
 ghost use mathlib.Core.Path.{_≡_};
@@ -25,14 +24,14 @@ fn next_time(board: &[u32], n: usize, scratch: &[u32], i: usize) -> u32
 }
 
 // One pass: the n words from n on become the next times of the first n words. The next times of tasks that read no moved time
-// are there already.
-pub fn make_pass(board: &[u32], n: usize, moved: Moved, scratch: &mut [u32])
-    requires { ⌜ (Startable (now board) n (now scratch)) × Kept (now board) n (now scratch) (moved .tasks) (moved .core) ⌝ }
+// are there already; `all` is the core of all tasks that moved.
+pub fn make_pass(board: &[u32], n: usize, moved: &[bool], all: u32, scratch: &mut [u32])
+    requires { ⌜ (Startable (now board) n (now scratch)) × (n ≤ length (now moved)) × Kept (now board) n (now scratch) (now moved) all ⌝ }
     ensures { λ _. ⌜ Stored (capped (system (now (board .entry))) (take n (now (scratch .entry)))) n n (now (scratch .entry)) (now (scratch .exit)) ⌝ }
 {
     let mut i = 0;
     while i < n {
-        if is_due(moved.tasks[i], moved.core, board::fields::core(board, i)) {
+        if is_due(moved[i], all, board::fields::core(board, i)) {
             scratch[n + i] = next_time(board, n, scratch, i);
         }
         i += 1;
@@ -51,27 +50,25 @@ pub fn clear(n: usize, words: &mut [u32])
     }
 }
 
-// Moves the n words from n on to the front, and tells which of the n words there this changed.
-pub fn advance(board: &[u32], n: usize, words: &mut [u32]) -> Moved
-    requires { ⌜ Room (now board) n (now words) ⌝ }
+// Moves the n words from n on to the front, and tells which of the n words there this changed, and on which core all of them are.
+pub fn advance(board: &[u32], n: usize, moved: &mut [bool], words: &mut [u32]) -> u32
+    requires { ⌜ (Room (now board) n (now words)) × (n ≤ length (now moved)) ⌝ }
     ensures { λ _. ⌜ now (words .exit) ≡ fillTo (λ k. getD (now (words .entry)) (n + k) 0) n (now (words .entry)) ⌝ }
-    ensures { λ r. ⌜ Told (now (board .entry)) n (now (words .entry)) (r .tasks) (r .core) n ⌝ }
+    ensures { λ r. ⌜ Told (now (board .entry)) n (now (words .entry)) (now (moved .exit)) r n ⌝ }
 {
-    let mut tasks = [false; 64];
     let mut all: u32 = 0;
     let mut k = 0;
     while k < n {
         let time = words[k];
         let next = words[n + k];
         words[k] = next;
-        if time != next {
-            tasks[k] = true;
+        if time == next {
+            moved[k] = false;
+        } else {
+            moved[k] = true;
             all = joined(board, all, k);
         }
         k += 1;
     }
-    Moved {
-        tasks: tasks,
-        core: all,
-    }
+    all
 }

@@ -1,9 +1,9 @@
 -- `settling::run` meets its contract. The loop over passes knows `Underway`; the comparison knows that the halves agree below i.
 -- Assumes nothing.
 use Prim.Native.Nat.{ℕ, _+_, _-_, _≤_, _<_}
-use mathlib.Core.Path.{_≡_}
+use mathlib.Core.Path.{_≡_, refl}
 use native.Mathlib.Omega.{arith}
-use lib.ListN.{getD}
+use lib.ListN.{length, getD}
 use borrow.Author.Count.{below-more}
 use borrow.Author.Needs.{needs}
 use Rattle.scratch.proofs.Prepared.{room-kept}
@@ -12,16 +12,16 @@ use Rattle.settling.proofs.run.Statement.{statement}
 use Rattle.settling.proofs.run.Tie as tie
 
 abbrev Inv-compare : tie.InvT-compare
-Inv-compare board n limit scratch left i₀ i = (i ≤ n) × ((k : ℕ) → k < i → getD scratch k 0 ≡ getD scratch (n + k) 0)
+Inv-compare board n limit scratch left moved all i₀ i = (i ≤ n) × ((k : ℕ) → k < i → getD scratch k 0 ≡ getD scratch (n + k) 0)
 
 abbrev μ-compare : tie.MeasureT-compare
-μ-compare board n limit scratch left i₀ i = n - i
+μ-compare board n limit scratch left moved all i₀ i = n - i
 
 abbrev Inv-passes : tie.InvT-passes
-Inv-passes board n limit scratch₀ left₀ moved₀ scratch left moved = Underway board n limit scratch₀ scratch left (moved .tasks) (moved .core)
+Inv-passes board n limit scratch₀ left₀ moved₀ all₀ scratch left moved all = Underway board n limit scratch₀ scratch left moved all × (length moved ≡ 64)
 
 abbrev μ-passes : tie.MeasureT-passes
-μ-passes board n limit scratch₀ left₀ moved₀ scratch left moved = left
+μ-passes board n limit scratch₀ left₀ moved₀ all₀ scratch left moved all = left
 
 -- the loop's head, and after a pass
 abbrev Head : Type 0
@@ -31,7 +31,7 @@ abbrev Made : Type 0
 Made = tie.After-make-pass Inv-compare μ-compare Inv-passes μ-passes
 
 abbrev head-of : Made → Head
-head-of m = m .before .before .before
+head-of m = m .before .before .before .before
 
 pub run-spec : {M : Type 1} → statement M
 run-spec =
@@ -42,9 +42,10 @@ run-spec =
     Inv-passes
     μ-passes
     (λ c κs. search needs)
-    (λ c. let s = c .before .before .before .before .before .before in underway-start (s .args .limit) (s .pre) (c .before .before .clear .ensures))
+    (λ c. let s = c .before .before .before .before .before .before in (underway-start (s .args .limit) (s .pre) (c .before .before .clear .ensures), refl))
     (λ c. search needs)
-    (λ c κs. let u = c .before .before .passes .inv in (underway-startable u, u .kept))
+    (λ c. search needs)
+    (λ c κs. let u = c .before .before .before .passes .inv .0 in (underway-startable u, search needs, u .kept))
     (λ c. search needs)
     (λ c. search needs)
     (λ c. search needs)
@@ -55,25 +56,28 @@ run-spec =
     (λ c. search needs)
     (λ c. search needs)
     (λ c. let k = c .before .before .before .before .compare in (omega arith, below-more _ (k .i) (k .inv .1) (c .if3 .left)))
+    (λ c. search needs)
     (λ c κs.
-    let m = c .before .before .before .before .before .before .before .before in
-    room-kept (head-of m .passes .inv .prepared .room) (m .make-pass .ensures .size))
+    let m = c .before .before .before .before .before .before .before .before .before in
+    (room-kept (head-of m .passes .inv .0 .prepared .room) (m .make-pass .ensures .size), search needs))
     (λ c. search needs)
     (λ c.
-    let differ = c .before .before .before .before in
-    let m = differ .before .before .before .before .before .before .before in
-    underway-next (head-of m .passes .inv) (omega arith) (m .make-pass .ensures) (omega arith) (differ .if3 .taken)
-    (c .before .before .advance .ensures .0) (c .before .before .advance .ensures .1))
+    let differ = c .before .before .before .before .before .before in
+    let m = differ .before .before .before .before .before .before .before in (
+      underway-next (head-of m .passes .inv .0) (omega arith) (m .make-pass .ensures) (omega arith) (differ .if3 .taken)
+          (c .before .before .before .advance .ensures .0) (c .before .before .before .advance .ensures .1),
+      search needs,
+    ))
     (λ c. search needs)
     (λ c.
     let h = c .before in
     let s = h .before .before .before .before .before .before .before in
-    let end = underway-over (h .passes .inv) (omega arith) in
+    let end = underway-over (h .passes .inv .0) (omega arith) in
     (end .0, ended-cleared (s .args .n) (s .args .scratch .now) (h .before .before .before .clear .ensures) (end .1)))
     (λ c. search needs)
     (λ c.
     let m = c .before .before .before .before in
     let h = head-of m in
     let s = h .before .before .before .before .before .before .before in
-    let end = underway-still (h .passes .inv) (omega arith) (m .make-pass .ensures) (λ k l. c .before .compare .inv .1 k (omega arith)) in
+    let end = underway-still (h .passes .inv .0) (omega arith) (m .make-pass .ensures) (λ k l. c .before .compare .inv .1 k (omega arith)) in
     (end .0, ended-cleared (s .args .n) (s .args .scratch .now) (h .before .before .before .clear .ensures) (end .1))))

@@ -1,7 +1,7 @@
 -- `settling::pass::advance` meets its contract: a word that is read has not been written yet.
 -- Assumes nothing.
 use Prim.Native.Nat.{ℕ, _+_, _-_, _≤_, _<_}
-use mathlib.Core.Bool.{true}
+use mathlib.Core.Bool.{true, false}
 use mathlib.Core.List.{List}
 use mathlib.Core.Logic.{⊎-elim}
 use mathlib.Core.Path.{_≡_, refl, sym, subst, ap, _∙_}
@@ -21,10 +21,10 @@ abbrev next : ℕ → List ℕ → ℕ → ℕ
 next n words k = getD words (n + k) 0
 
 abbrev Inv-loop : tie.InvT-loop
-Inv-loop board n words₀ tasks₀ all₀ k₀ words tasks all k = Filled (next n words₀) n words₀ words k × Told board n words₀ tasks all k × (length tasks ≡ 64)
+Inv-loop board n moved₀ words₀ all₀ k₀ moved words all k = Filled (next n words₀) n words₀ words k × Told board n words₀ moved all k × (length moved ≡ length moved₀)
 
 abbrev μ-loop : tie.MeasureT-loop
-μ-loop board n words₀ tasks₀ all₀ k₀ words tasks all k = n - k
+μ-loop board n moved₀ words₀ all₀ k₀ moved words all k = n - k
 
 -- a word that was not written yet
 unwritten : (n : ℕ) (words₀ words : List ℕ) {k : ℕ} → Filled (next n words₀) n words₀ words k → (j : ℕ) → k ≤ j → getD words j 0 ≡ getD words₀ j 0
@@ -32,18 +32,18 @@ unwritten n words₀ words {k} so-far j h = ap (λ (w : List ℕ). getD w j 0) (
 
 again : tie.Need-loop-again Inv-loop μ-loop
 again c =
-    let a = c .before .before .before .before .before .before .before .args in
+    let a = c .before .before .before .before .before .before .before .before .args in
     let l = c .before .before .before .before .loop in
     let read = unwritten (a .n) (a .words .now) (l .words) (l .inv .0) in
     let filled = filled-next (l .inv .0) (omega arith) (read (a .n + l .k) (omega arith)) in
-    let ready = c .before .before .before .before .before .before .before .pre in
+    let ready = c .before .before .before .before .before .before .before .before .pre in
+    let room : l .k < length (l .moved) = omega (arith, l .inv .2, ready .1) in
     ⊎-elim
     (λ came.
-    let room : l .k < length (l .tasks) = omega (arith, l .inv .2, ready .sound .tasks .1, ready .tasks) in
-    (filled, rw (came .2, came .3) (told-moved (l .inv .1) room (came .1 .ensures)), ap length (came .2) ∙ length-set (l .tasks) (l .k) true ∙ l .inv .2))
+    let same = sym (read (l .k) (omega arith)) ∙ came .0 .taken ∙ read (a .n + l .k) (omega arith) in
+    (filled, rw (came .1, came .2) (told-still (l .inv .1) same), ap length (came .1) ∙ length-set (l .moved) (l .k) false ∙ l .inv .2))
     (λ came.
-    let same = sym (read (l .k) (omega arith)) ∙ came .0 .left ∙ read (a .n + l .k) (omega arith) in
-    (filled, rw (came .1, came .2) (told-still (l .inv .1) same), ap length (came .1) ∙ l .inv .2))
+    (filled, rw (came .2, came .3) (told-moved (l .inv .1) room (came .1 .ensures)), ap length (came .2) ∙ length-set (l .moved) (l .k) true ∙ l .inv .2))
     (c .if1 .came)
 
 pub advance-spec : {M : Type 1} → statement M
@@ -60,11 +60,13 @@ advance-spec =
     (λ c. search needs)
     (λ c. search needs)
     (λ c. search needs)
-    (λ c. let ready = c .before .before .before .before .before .before .before .pre in omega (arith, ready .sound .tasks .1, ready .tasks))
-    (λ c κs. let ready = c .before .before .before .before .before .before .before .pre in (ready .sound, omega (arith, ready .tasks)))
+    (λ c. search needs)
+    (λ c. search needs)
+    (λ c κs. let ready = c .before .before .before .before .before .before .before .before .pre .0 in (ready .sound, omega (arith, ready .tasks)))
     (λ c. search needs)
     (λ c. search needs)
     again
+    (λ c. search needs)
     (λ c. search needs)
     (λ c.
     let l = c .before .loop in

@@ -18,15 +18,15 @@ use Rattle.settling.proofs.pass.make_pass.Statement.{statement}
 use Rattle.settling.proofs.pass.make_pass.Tie as tie
 
 abbrev Inv-loop : tie.InvT-loop
-Inv-loop board n scratch₀ moved i₀ scratch i = (i ≤ n) × Stored (capped (system board) (take n scratch₀)) n i scratch₀ scratch
+Inv-loop board n moved all scratch₀ i₀ scratch i = (i ≤ n) × Stored (capped (system board) (take n scratch₀)) n i scratch₀ scratch
 
 abbrev μ-loop : tie.MeasureT-loop
-μ-loop board n scratch₀ moved i₀ scratch i = n - i
+μ-loop board n moved all scratch₀ i₀ scratch i = n - i
 
 -- task i was computed, or had its next time already
 again : tie.Need-loop-again Inv-loop μ-loop
 again c =
-    let s = c .before .before .before .before .before .before .before .before in
+    let s = c .before .before .before .before .before .before .before .before .before in
     let l = c .before .before .before .before .before .loop in (
       omega arith,
       ⊎-elim
@@ -37,7 +37,7 @@ again c =
           (λ came.
           let left = c .before .is-due .ensures (came .0 .left) in
           let core = c .before .before .core .ensures .0 in
-          rw (came .1) (stored-kept (l .inv .1) (s .pre .1 (l .i) (omega arith) (left .0) (subst (Within _) core (left .1)))))
+          rw (came .1) (stored-kept (l .inv .1) (s .pre .2 (l .i) (omega arith) (left .0) (subst (Within _) core (left .1)))))
           (c .if1 .came),
     )
 
@@ -48,12 +48,12 @@ make-pass-spec =
     Inv-loop
     μ-loop
     (λ c. (omega arith, stored-none _ _ _))
-    (λ c. let room = c .before .before .before .before .pre .0 .prepared .room in omega (arith, room .sound .tasks .1, room .tasks))
-    (λ c κs. let room = c .before .before .before .before .before .pre .0 .prepared .room in (room .sound, omega (arith, room .tasks)))
+    (λ c. search needs)
+    (λ c κs. let room = c .before .before .before .before .before .before .pre .0 .prepared .room in (room .sound, omega (arith, room .tasks)))
     (λ c κs. search needs)
     (λ c κs.
     let l = c .before .before .before .before .before .before .loop in
-    (startable-stored (c .before .before .before .before .before .before .before .before .before .pre .0) (l .inv .1) (l .inv .0), omega arith))
+    (startable-stored (c .before .before .before .before .before .before .before .before .before .before .pre .0) (l .inv .1) (l .inv .0), omega arith))
     (λ c. search needs)
     (λ c. search needs)
     (λ c. search needs)
