@@ -4,7 +4,7 @@ use Prim.Native.Nat.{ℕ, _+_, _≤_, _<_}
 use mathlib.Core.List.{List}
 use mathlib.Core.Path.{_≡_, refl, sym, ap, ap₂, _∙_}
 use native.Mathlib.Omega.{arith}
-use lib.ListN.{length, getD, take}
+use lib.ListN.{getD, take}
 use borrow.Author.Tests.{lt-ltb, le-ltb}
 use Rattle.folds.specs.Folds.{fillTo}
 use Rattle.board.specs.Layout.{tasks, passLimit}
@@ -61,7 +61,3 @@ module _ (b old : List ℕ) {limit : ℕ} (limit-is : limit ≡ passLimit b) {w 
           ∙ ap₂ (λ (l : List ℕ) (m : ℕ). fillTo (λ k. getD l k 0) m old) same tasks-of;
       size = ended .size;
     }
-
--- over a scratch of as many words
-pub concluded-over : {b old w w₀ new w' : List ℕ} {r : Answer} → Concluded b old w r new w' → length w ≡ length w₀ → Concluded b old w₀ r new w'
-concluded-over c e = record { answer = c .answer; given = c .given; size = c .size ∙ e }

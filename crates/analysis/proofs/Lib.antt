@@ -3,6 +3,8 @@ pub mod Demand
 pub mod Table
 pub mod Outcomes
 pub mod Concluded
+pub mod Begun
 pub mod Steps
+pub mod Loans
 pub mod Filling
 pub mod Shell

@@ -10,7 +10,6 @@ use Rattle.board.specs.Layout.{tasks}
 use Rattle.board.specs.Sound.{Sound}
 use Rattle.board.specs.declared.Verdict.{Verdict}
 use Rattle.board.specs.declared.Verdict.the-variants.{Passed, Refused}
-use Rattle.figures.specs.Ready.{Ready}
 use Rattle.scratch.specs.Scratch.{Room}
 use Rattle.analysis.specs.declared.Answer.{Answer}
 use Rattle.analysis.specs.declared.Answer.the-variants.{Refused as Answer·Refused}
@@ -30,16 +29,20 @@ module _ {v : Verdict} (value : ℕ) where
 
 -- ---- the records that are filled: one a task, or none
 
--- so many records, each of a task, and with room for them
-abbrev pub Fills : List ℕ → Verdict → ℕ → ℕ → Type 0
-Fills b v room r = (r ≡ recordsOf v b) × (((k : ℕ) → k < r → Ready b k) × (r ≤ room))
+-- where there is one, nothing is refused
+pub records-passed : (b : List ℕ) (n : ℕ) (v : Verdict) → n ≡ recordsOf v b → 0 < n → v ≡ Passed
+records-passed b n Passed e h = refl
+records-passed b n (Refused number place) e h = absurd (omega arith)
 
-pub fills-tasks : {b : List ℕ} {v : Verdict} {room r : ℕ} → v ≡ Passed → Sound b → tasks b ≤ room → r ≡ tasks b → Fills b v room r
-fills-tasks {b} {v} {room} {r} e s room-for n =
-    (n ∙ ap (λ (w : Verdict). recordsOf w b) (sym e), (λ k h. record { sound = s; task = omega arith }, omega arith))
+module _ (b : List ℕ) {v : Verdict} where
+  pub records-tasks : {n : ℕ} → v ≡ Passed → n ≡ recordsOf v b → n ≡ tasks b
+  records-tasks e h = h ∙ ap (λ (w : Verdict). recordsOf w b) e
 
-pub fills-none : {b : List ℕ} {v : Verdict} {room number place : ℕ} → v ≡ Refused number place → Fills b v room 0
-fills-none {b} e = (ap (λ (w : Verdict). recordsOf w b) (sym e), (λ k h. absurd (omega arith), omega arith))
+  pub tasks-records : {n : ℕ} → v ≡ Passed → n ≡ tasks b → n ≡ recordsOf v b
+  tasks-records e h = h ∙ ap (λ (w : Verdict). recordsOf w b) (sym e)
+
+  pub none-records : {number place : ℕ} → v ≡ Refused number place → 0 ≡ recordsOf v b
+  none-records e = ap (λ (w : Verdict). recordsOf w b) (sym e)
 
 -- ---- a scratch of so many words has room for the tasks
 

@@ -3,4 +3,5 @@ pub mod Refusals
 pub mod Answers
 pub mod Demand
 pub mod Records
+pub mod Begun
 pub mod Concluded

@@ -5,14 +5,15 @@ use board::Verdict;
 use folds::index;
 use folds::wide;
 ghost use mathlib.Core.Path.{_≡_};
-ghost use Prim.Native.Nat.{ℕ, _<_, _≤_};
+ghost use Prim.Native.Nat.{_≤_};
 ghost use lib.ListN.{length};
 ghost use Rattle.board.specs.Layout.{passLimit};
 ghost use Rattle.board.specs.declared.Verdict.the-variants.{Passed};
-ghost use Rattle.figures.specs.Ready.{Ready};
+ghost use Rattle.figures.specs.Survey.{Fillable};
 ghost use Rattle.analysis.specs.Refusals.{figuresRefusal, analyseRefusal};
 ghost use Rattle.analysis.specs.Answers.{system, figuresAnswer, overheadAnswer, weighAnswer, analyseAnswer, timesAfter, tableAfter, ScratchAfter};
 ghost use Rattle.analysis.specs.Records.{recordsOf};
+ghost use Rattle.analysis.specs.Begun.{Begun, Concludable};
 ghost use Rattle.analysis.specs.Demand.{Demand3};
 
 // What `analyse` answers: the passes; the late task and the passes; the limit spent; the number of the refusal and its place.
@@ -44,19 +45,21 @@ pub fn analyse(
         → Demand3 (system (now (board .entry))) (passLimit (now (board .entry))) r (now (times .exit))) ⌝ }
 {
     let room = table.len();
-    let n = records(board, times.len(), scratch.len(), room);
-    figures::fill(board, table, n);
-    settle(board, times, scratch, room)
+    let mut sets = [0u64; 256];
+    let n = prepare(board, times.len(), scratch, room, &mut sets);
+    figures::fill(board, n, scratch, &sets, table);
+    conclude(board, n, times, scratch, room)
 }
 
-// `analyse` with a table of its own, for callers that want no figures.
+// `analyse` for callers that want no figures: as with a table of 64 records.
 pub fn analyse_alone(board: &[u32], times: &mut [u32], scratch: &mut [u32]) -> Answer
     ensures answer { λ r. ⌜ r ≡ analyseAnswer (now (board .entry)) (length (now (times .entry))) (length (now (scratch .entry))) 64 ⌝ }
     ensures times { λ r. ⌜ now (times .exit) ≡ timesAfter (now (board .entry)) r (now (times .entry)) ⌝ }
     ensures scratch { λ _. ⌜ ScratchAfter (analyseRefusal (now (board .entry)) (length (now (times .entry))) (length (now (scratch .entry))) 64) (now (scratch .entry)) (now (scratch .exit)) ⌝ }
 {
-    let mut table = figures::blank();
-    analyse(board, times, scratch, &mut table)
+    let mut sets = [0u64; 256];
+    let n = prepare(board, times.len(), scratch, 64, &mut sets);
+    conclude(board, n, times, scratch, 64)
 }
 
 // The figures of every task, one record a task; the later records are untouched. Answers the number of records filled.
@@ -65,51 +68,91 @@ pub fn figures(board: &[u32], table: &mut [figures::Figure]) -> Outcome
     ensures table { λ _. ⌜ now (table .exit) ≡ tableAfter (now (board .entry)) (figuresRefusal (now (board .entry)) (length (now (table .entry)))) (now (table .entry)) ⌝ }
 {
     let room = table.len();
-    let n = figures_records(board, room);
-    figures::fill(board, table, n);
-    figures_outcome(board, room)
+    let mut words = [0u32; 256];
+    let mut sets = [0u64; 256];
+    let n = prepare_figures(board, room, &mut words, &mut sets);
+    figures::fill(board, n, &words, &sets, table);
+    figures_outcome(board, n, room)
 }
 
-// How many records `analyse` fills: none where it refuses. The buffers are their lengths here.
-pub fn records(board: &[u32], times: usize, scratch: usize, room: usize) -> usize
-    ensures { λ r. ⌜ (r ≡ recordsOf (analyseRefusal (now (board .entry)) times scratch room) (now (board .entry)))
-        × (((k : ℕ) → k < r → Ready (now (board .entry)) k) × (r ≤ room)) ⌝ }
+// The checks of `analyse`, its times and table being of these lengths, and, unless it refuses, the figures of every task in the scratch and
+// the sets. Answers how many records are filled: none where it refuses.
+pub fn prepare(
+    board: &[u32],
+    times: usize,
+    scratch: &mut [u32],
+    room: usize,
+    sets: &mut [u64; 256],
+) -> usize
+    ensures { λ r. ⌜ Begun (now (board .entry)) (analyseRefusal (now (board .entry)) times (length (now (scratch .entry))) room) room r
+        (now (scratch .entry)) (now (scratch .exit)) (now (sets .exit)) ⌝ }
 {
-    match calls::check_analyse(board, times, scratch, room) {
-        Verdict::Passed => index(board::fields::tasks(board)),
+    match calls::check_analyse(board, times, scratch.len(), room) {
+        Verdict::Passed => {
+            let n = index(board::fields::tasks(board));
+            scratch::prepare(board, n, scratch, sets);
+            n
+        }
         Verdict::Refused(_, _) => 0,
     }
 }
 
-// All of `analyse` but the figures table, which has this room.
-pub fn settle(board: &[u32], times: &mut [u32], scratch: &mut [u32], room: usize) -> Answer
+// The passes and the answer of `analyse`. n is what `prepare` answered: where it is 0 the call is refused, and the checks are made again for the
+// number and the place.
+pub fn conclude(
+    board: &[u32],
+    n: usize,
+    times: &mut [u32],
+    scratch: &mut [u32],
+    room: usize,
+) -> Answer
+    requires { ⌜ Concludable (now board) (analyseRefusal (now board) (length (now times)) (length (now scratch)) room) n (now scratch) ⌝ }
     ensures { λ r. ⌜ (r ≡ analyseAnswer (now (board .entry)) (length (now (times .entry))) (length (now (scratch .entry))) room)
         × ((now (times .exit) ≡ timesAfter (now (board .entry)) r (now (times .entry)))
         × ScratchAfter (analyseRefusal (now (board .entry)) (length (now (times .entry))) (length (now (scratch .entry))) room) (now (scratch .entry)) (now (scratch .exit))) ⌝ }
 {
+    if 0 < n {
+        return taken::answer(board, n, times, scratch);
+    }
     match calls::check_analyse(board, times.len(), scratch.len(), room) {
-        Verdict::Passed => taken::answer(board, times, scratch),
+        // never: a board that passes has a task
+        Verdict::Passed => Answer::Spent,
         Verdict::Refused(number, place) => Answer::Refused(number, place),
     }
 }
 
-// How many records `figures` fills: none where it refuses.
-pub fn figures_records(board: &[u32], room: usize) -> usize
+// The checks of `figures` and, unless it refuses, the figures of every task in the words and the sets. Answers how many records are filled: none
+// where it refuses.
+pub fn prepare_figures(
+    board: &[u32],
+    room: usize,
+    words: &mut [u32],
+    sets: &mut [u64; 256],
+) -> usize
+    requires { ⌜ 256 ≤ length (now words) ⌝ }
     ensures { λ r. ⌜ (r ≡ recordsOf (figuresRefusal (now (board .entry)) room) (now (board .entry)))
-        × (((k : ℕ) → k < r → Ready (now (board .entry)) k) × (r ≤ room)) ⌝ }
+        × (Fillable (now (board .entry)) r (now (words .exit)) (now (sets .exit)) × (r ≤ room)) ⌝ }
 {
     match calls::check_figures(board, room) {
-        Verdict::Passed => index(board::fields::tasks(board)),
+        Verdict::Passed => {
+            let n = index(board::fields::tasks(board));
+            figures::survey::survey(board, n, false, words, sets);
+            n
+        }
         Verdict::Refused(_, _) => 0,
     }
 }
 
-// What `figures` answers.
-pub fn figures_outcome(board: &[u32], room: usize) -> Outcome
+// What `figures` answers, from the number of records filled.
+pub fn figures_outcome(board: &[u32], n: usize, room: usize) -> Outcome
+    requires { ⌜ n ≡ recordsOf (figuresRefusal (now board) room) (now board) ⌝ }
     ensures { λ r. ⌜ r ≡ figuresAnswer (now (board .entry)) room ⌝ }
 {
+    if 0 < n {
+        return Outcome::Value(n as u64);
+    }
     match calls::check_figures(board, room) {
-        Verdict::Passed => Outcome::Value(wide(board::fields::tasks(board))),
+        Verdict::Passed => Outcome::Value(n as u64),
         Verdict::Refused(number, place) => Outcome::Refused(number, place),
     }
 }
@@ -119,7 +162,7 @@ pub fn overhead(board: &[u32], i: usize, j: usize) -> Outcome
     ensures { λ r. ⌜ r ≡ overheadAnswer (now (board .entry)) i j ⌝ }
 {
     match calls::check_overhead(board, i, j) {
-        Verdict::Passed => Outcome::Value(wide(figures::preemption::overhead(board, i - 1, j - 1))),
+        Verdict::Passed => Outcome::Value(wide(figures::survey::overhead(board, i - 1, j - 1))),
         Verdict::Refused(number, place) => Outcome::Refused(number, place),
     }
 }

@@ -7,11 +7,11 @@ ghost use Prim.Native.Nat.{_-_, _≤_};
 ghost use lib.ListN.{length};
 ghost use Rattle.sums.specs.Sums.{taskSum};
 ghost use Rattle.scratch.specs.Scratch.{Prepared};
-ghost use Rattle.calls.specs.Accepted.{WeighTaken, Analysable};
+ghost use Rattle.calls.specs.Accepted.{WeighTaken};
 ghost use Rattle.analysis.specs.Concluded.{Concluded};
 
-// The passes and the answer, over a prepared scratch.
-fn conclude(board: &[u32], n: usize, times: &mut [u32], scratch: &mut [u32]) -> Answer
+// The passes and the answer, over a prepared scratch. The settled times are in the buffer where they are the answer.
+pub fn answer(board: &[u32], n: usize, times: &mut [u32], scratch: &mut [u32]) -> Answer
     requires { ⌜ (Prepared (now board) n (now scratch)) × (n ≤ length (now times)) ⌝ }
     ensures { λ r. ⌜ Concluded (now (board .entry)) (now (times .entry)) (now (scratch .entry)) r (now (times .exit)) (now (scratch .exit)) ⌝ }
 {
@@ -30,16 +30,6 @@ fn conclude(board: &[u32], n: usize, times: &mut [u32], scratch: &mut [u32]) -> 
     }
 }
 
-// The answer of `analyse`, with the settled times in the buffer where they are the answer.
-pub fn answer(board: &[u32], times: &mut [u32], scratch: &mut [u32]) -> Answer
-    requires { ⌜ Analysable (now board) (length (now times)) (length (now scratch)) ⌝ }
-    ensures { λ r. ⌜ Concluded (now (board .entry)) (now (times .entry)) (now (scratch .entry)) r (now (times .exit)) (now (scratch .exit)) ⌝ }
-{
-    let n = index(board::fields::tasks(board));
-    scratch::prepare(board, n, scratch);
-    conclude(board, n, times, scratch)
-}
-
 // The sum of task i, a number from 1, at the times.
 pub fn sum(board: &[u32], times: &[u32], i: usize) -> u64
     requires { ⌜ WeighTaken (now board) (now times) i ⌝ }
@@ -47,6 +37,7 @@ pub fn sum(board: &[u32], times: &[u32], i: usize) -> u64
 {
     let n = index(board::fields::tasks(board));
     let mut words = [0u32; 4352];
-    scratch::prepare(board, n, &mut words);
+    let mut sets = [0u64; 256];
+    scratch::prepare(board, n, &mut words, &mut sets);
     scratch::sum_of(board, n, &words, times, i - 1)
 }

@@ -1,7 +1,7 @@
 // Sets of numbers below 256, as the bits of four 64-bit words: s is bit s mod 64 (bit 0 lowest) of word floor(s/64).
 // The contracts hold for any four words.
 ghost use mathlib.Core.Path.{_≡_};
-ghost use mathlib.Core.Bool.{not, _&&_, _||_, false};
+ghost use mathlib.Core.Bool.{_&&_, _||_, false};
 ghost use Prim.Native.Nat.{ℕ, _<_, _≤_};
 ghost use lib.Dec.{eqb};
 ghost use lib.Bits.{bitAnd};
@@ -25,18 +25,6 @@ pub fn insert(set: [u64; 4], s: usize) -> [u64; 4]
     let i = s / 64;
     let w = out[i];
     out[i] = (1u64 << (s % 64)) | w;
-    out
-}
-
-// The set without s.
-pub fn remove(set: [u64; 4], s: usize) -> [u64; 4]
-    requires { ⌜ s < 256 ⌝ }
-    ensures { λ r. ⌜ r ≡ wordsOf (λ (t : ℕ). not (eqb t s) && member set t) ⌝ }
-{
-    let mut out = set;
-    let i = s / 64;
-    let w = out[i];
-    out[i] = !(1u64 << (s % 64)) & w;
     out
 }
 

@@ -26,9 +26,11 @@ pub extern "C" fn zuzgravel_figures(board: &[u32], records: &mut [u32], numbers:
     ensures records { λ _. ⌜ now (records .exit) ≡ recordsAfter (now (board .entry)) (figuresRefusal (now (board .entry)) (length (now (records .entry)) / 13)) (now (records .entry)) ⌝ }
 {
     let room = records.len() / 13;
-    let n = analysis::figures_records(board, room);
-    fill(board, n, records);
-    of_outcome(analysis::figures_outcome(board, room), numbers)
+    let mut words = [0u32; 256];
+    let mut sets = [0u64; 256];
+    let n = analysis::prepare_figures(board, room, &mut words, &mut sets);
+    fill(board, n, &words, &sets, records);
+    of_outcome(analysis::figures_outcome(board, n, room), numbers)
 }
 
 // Overhead: the value is γ(i, j); tasks are their numbers from 1.
@@ -72,7 +74,8 @@ pub extern "C" fn zuzgravel_analyse(
         → Demand3 (system (now (board .entry))) (passLimit (now (board .entry))) (analyseAnswer (now (board .entry)) (length (now (times .entry))) (length (now (scratch .entry))) (length (now (records .entry)) / 13)) (now (times .exit))) ⌝ }
 {
     let room = records.len() / 13;
-    let n = analysis::records(board, times.len(), scratch.len(), room);
-    fill(board, n, records);
-    of_answer(analysis::settle(board, times, scratch, room), numbers)
+    let mut sets = [0u64; 256];
+    let n = analysis::prepare(board, times.len(), scratch, room, &mut sets);
+    fill(board, n, scratch, &sets, records);
+    of_answer(analysis::conclude(board, n, times, scratch, room), numbers)
 }

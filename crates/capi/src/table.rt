@@ -1,27 +1,27 @@
 // The figures table as 32-bit words, 13 a record.
 use figures::Figure;
-use figures::figure_of;
+use figures::figure_at;
 ghost use mathlib.Core.Path.{_≡_};
-ghost use Prim.Native.Nat.{ℕ, _*_, _≤_, _<_};
+ghost use Prim.Native.Nat.{_*_, _≤_};
 ghost use lib.ListN.{length};
 ghost use Rattle.folds.specs.Folds.{fillTo};
-ghost use Rattle.figures.specs.Ready.{Ready};
+ghost use Rattle.figures.specs.Survey.{Fillable};
 ghost use Rattle.capi.specs.Records.{low, high, figureWords, recordWords};
 
 // Fills the first n records with the figures of the tasks below n. The words past them stay as they are.
-pub fn fill(board: &[u32], n: usize, records: &mut [u32])
-    requires { ⌜ ((k : ℕ) → k < n → Ready (now board) k) × (13 * n ≤ length (now records)) ⌝ }
+pub fn fill(board: &[u32], n: usize, words: &[u32], sets: &[u64; 256], records: &mut [u32])
+    requires { ⌜ (Fillable (now board) n (now words) (now sets)) × (13 * n ≤ length (now records)) ⌝ }
     ensures { λ _. ⌜ now (records .exit) ≡ fillTo (recordWords (now (board .entry))) (13 * n) (now (records .entry)) ⌝ }
 {
     let end = 13 * n;
-    let mut words = [0u32; 13];
+    let mut current = [0u32; 13];
     let mut w: usize = 0;
     while w < end {
         let at = w % 13;
         if at == 0 {
-            words = words_of(figure_of(board, w / 13));
+            current = words_of(figure_at(board, n, words, sets, w / 13));
         }
-        records[w] = words[at];
+        records[w] = current[at];
         w += 1;
     }
 }

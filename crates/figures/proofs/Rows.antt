@@ -1,43 +1,49 @@
--- Laws of a row of overheads, raised task by task, and of the table of rows.
+-- Laws of a row of overheads, raised task by task and copied to a table.
 -- Assumes nothing.
-use Prim.Native.Nat.{ℕ, _+_, _-_, _*_, _/_, _%_, _≤_, _<_, max}
-use mathlib.Core.Bool.{Bool, false, true, cond, _&&_}
+use Prim.Native.Nat.{ℕ, _+_, _*_, _≤_, _<_, max}
+use mathlib.Core.Bool.{Bool, false, true, _&&_}
 use mathlib.Core.List.{List}
 use mathlib.Core.Logic.{⊎-elim}
 use mathlib.Core.Path.{_≡_, refl, sym, ap, ap₂, _∙_}
-use native.Mathlib.Nat.{le-refl, le-trans, mul-le-mul-right, add-mul, one-mul, zero-mul}
+use native.Mathlib.Nat.{le-refl, not-suc-le-zero, mul-le-mul-right, add-mul, one-mul}
+use native.Mathlib.Decide.{ℕ-discrete}
 use native.Mathlib.Omega.{arith}
-use lib.Arith.{digits-div, digits-mod}
 use lib.Dec.{eqb}
 use lib.ListN.{length, getD, set, replicate, length-replicate, getD-replicate}
+use lib.Seq.{getD-set-same, getD-set-other}
 use borrow.Author.Tests.{lt-ltb, le-ltb}
 use Rattle.folds.specs.Folds.{when, maxTo, fillTo}
 use Rattle.folds.proofs.Numbers.{le-or-lt}
 use Rattle.folds.proofs.Folds.{maxTo-none, maxTo-next}
-use Rattle.folds.proofs.Lists.{fillTo-none, length-fillTo, fillTo-below, fillTo-from, fillTo-is, fillTo-cong}
+use Rattle.folds.proofs.Lists.{length-fillTo, fillTo-below, fillTo-from, fillTo-is, fillTo-cong}
 use Rattle.folds.proofs.Loops.{maxTo-turn, fillTo-turn}
-use Rattle.board.specs.Layout.{tasks, core, traceCount}
+use Rattle.board.specs.Layout.{core, traceCount}
 use Rattle.trace.specs.Traces.{mostUseful}
+use Rattle.useful.specs.Records.{mostCommon}
 use Rattle.figures.specs.Figures.{taskTrace}
 use Rattle.figures.specs.Overhead.{evictedBy, reloads, γ}
-use Rattle.figures.specs.Rows.{overheadAt, onCoreOf, raised, written}
+use Rattle.figures.specs.Rows.{onCoreOf, raised, Copied}
 use Rattle.figures.proofs.Overhead.{reloadsBelow}
 
--- ---- a list filled with what stands there, and filled twice
+-- ---- a list filled with what stands there
 
 pub fillTo-same : (f : ℕ → ℕ) (xs : List ℕ) (n : ℕ) → ((k : ℕ) → k < n → f k ≡ getD xs k 0) → fillTo f n xs ≡ xs
 fillTo-same f xs n same = sym (fillTo-is f xs 0 n xs refl (λ k l w. sym (same k l)) (λ k l. refl))
 
-pub fillTo-over : (f g : ℕ → ℕ) (xs : List ℕ) (n m : ℕ) → n ≤ m → fillTo g m (fillTo f n xs) ≡ fillTo g m xs
-fillTo-over f g xs n m h =
-    fillTo-is g xs 0 m (fillTo g m (fillTo f n xs)) (length-fillTo g (fillTo f n xs) m ∙ length-fillTo f xs n)
-    (λ k l w. fillTo-below g (fillTo f n xs) 0 m k l (omega (arith, length-fillTo f xs n)))
-    (λ k l. fillTo-from g (fillTo f n xs) 0 m k l ∙ fillTo-from f xs 0 n k (le-trans h l))
-
 -- ---- a row that is raised
+
+when-zero : (test : Bool) (x : ℕ) → x ≡ 0 → when test x ≡ 0
+when-zero true x e = e
+when-zero false x e = refl
 
 pub raised-none : (f : ℕ → ℕ) (i : ℕ) (row : List ℕ) → ((j : ℕ) → f j ≡ 0) → row ≡ raised f i row
 raised-none f i row none = sym (fillTo-same _ row i (λ j h. omega (arith, none j)))
+
+-- by no records
+pub common-none : (b : List ℕ) (i : ℕ) (lives : List ℕ) (m : ℕ) (row : List ℕ) → m ≡ 0 → row ≡ raised (onCoreOf b i (λ j. mostCommon lives m (evictedBy b j))) i row
+unfolding mostCommon
+common-none b i lives m row none =
+    raised-none _ i row (λ j. when-zero (eqb (core b i) (core b j)) _ (ap (maxTo _) none ∙ maxTo-none _))
 
 -- one word more
 pub raised-turn : (f : ℕ → ℕ) (row : List ℕ) (j : ℕ) {out : List ℕ} {v x : ℕ} → out ≡ raised f j row → x ≡ f j → v ≡ max (getD out j 0) x
@@ -46,10 +52,13 @@ raised-turn f row j e h q =
     fillTo-turn (λ k. max (getD row k 0) (f k)) row j e (q ∙ ap₂ max (ap (λ l. getD l j 0) e ∙ fillTo-from _ row 0 j j (le-refl j)) h)
 
 -- raised twice
-pub raised-both : (f g : ℕ → ℕ) (i : ℕ) (row : List ℕ) → i ≤ length row → raised g i (raised f i row) ≡ raised (λ j. max (f j) (g j)) i row
-raised-both f g i row h =
-    fillTo-over _ _ row i i (le-refl i)
-    ∙ fillTo-cong _ _ row i (λ j l. omega (arith, fillTo-below (λ k. max (getD row k 0) (f k)) row 0 i j l (omega arith)))
+pub raised-both : (f g : ℕ → ℕ) (i : ℕ) (row : List ℕ) → raised g i (raised f i row) ≡ raised (λ j. max (f j) (g j)) i row
+raised-both f g i row =
+    let once : ℕ → ℕ = λ j. max (getD row j 0) (f j) in
+    let twice : ℕ → ℕ = λ j. max (getD (raised f i row) j 0) (g j) in
+    fillTo-is (λ j. max (getD row j 0) (max (f j) (g j))) row 0 i (raised g i (raised f i row)) (length-fillTo twice (raised f i row) i ∙ length-fillTo once row i)
+    (λ j l w. omega (arith, fillTo-below twice (raised f i row) 0 i j l (omega (arith, length-fillTo once row i)), fillTo-below once row 0 i j l w))
+    (λ j l. fillTo-from twice (raised f i row) 0 i j l ∙ fillTo-from once row 0 i j l)
 
 when-max : (test : Bool) (x y : ℕ) → max (when test x) (when test y) ≡ when test (max x y)
 when-max true x y = refl
@@ -60,19 +69,15 @@ module _ (b : List ℕ) (i : ℕ) where
   abbrev pub addedBy : ℕ → ℕ → ℕ
   addedBy r = onCoreOf b i (λ j. maxTo (λ q. mostUseful (taskTrace b i q) (evictedBy b j)) r)
 
-  when-zero : (test : Bool) (x : ℕ) → x ≡ 0 → when test x ≡ 0
-  when-zero true x e = e
-  when-zero false x e = refl
-
   pub added-none : (row : List ℕ) → row ≡ raised (addedBy 0) i row
   added-none row = raised-none (addedBy 0) i row (λ j. when-zero (eqb (core b i) (core b j)) _ (maxTo-none _))
 
-  pub added-turn : (r : ℕ) (row out next : List ℕ) → i ≤ length row → out ≡ raised (addedBy r) i row
+  pub added-turn : (r : ℕ) (row out next : List ℕ) → out ≡ raised (addedBy r) i row
       → next ≡ raised (onCoreOf b i (λ j. mostUseful (taskTrace b i r) (evictedBy b j))) i out
       → next ≡ raised (addedBy (r + 1)) i row
-  added-turn r row out next h e q =
+  added-turn r row out next e q =
       let more : ℕ → ℕ = onCoreOf b i (λ j. mostUseful (taskTrace b i r) (evictedBy b j)) in
-      q ∙ ap (raised more i) e ∙ raised-both (addedBy r) more i row h
+      q ∙ ap (raised more i) e ∙ raised-both (addedBy r) more i row
       ∙ fillTo-cong _ _ row i
       (λ j l. ap (max (getD row j 0))
       (when-max (eqb (core b i) (core b j)) _ _
@@ -121,10 +126,10 @@ row-overhead b i row all j h = all .each j h
 
 -- ---- the table
 
--- the rows up to task i lie within n rows
-pub row-within : (n i : ℕ) → i < n → i * n + n ≤ n * n
-row-within n i h =
-    let step : (i + 1) * n ≤ n * n = mul-le-mul-right n (let l : i + 1 ≤ n = omega arith in l) in
+-- row i of n words lies before row m
+pub row-within : (n m i : ℕ) → i < m → i * n + n ≤ m * n
+row-within n m i h =
+    let step : (i + 1) * n ≤ m * n = mul-le-mul-right n (let l : i + 1 ≤ m = omega arith in l) in
     let more : (i + 1) * n ≡ i * n + n = add-mul i 1 n ∙ ap (λ (x : ℕ). i * n + x) (one-mul n) in
     omega arith
 
@@ -132,50 +137,21 @@ row-within n i h =
 pub square-fits : (n : ℕ) → n ≤ 64 → n * n ≤ 4096
 square-fits n few = let square : n * n ≤ 64 * n = mul-le-mul-right n few in omega arith
 
-overheadAt-row : (b : List ℕ) (n i j : ℕ) → n ≡ tasks b → j < n → overheadAt b (i * n + j) ≡ γ b i j
-overheadAt-row b n i j e h =
-    ap (λ (m : ℕ). γ b ((i * n + j) / m) ((i * n + j) % m)) (sym e) ∙ ap₂ (γ b) (digits-div i h) (digits-mod i h)
+-- ---- a row copied to a table, from word `from` on
 
-pub table-none : (b : List ℕ) (n : ℕ) (entry : List ℕ) → entry ≡ fillTo (overheadAt b) (0 * n) entry
-table-none b n entry = sym (fillTo-none (overheadAt b) entry) ∙ ap (λ (m : ℕ). fillTo (overheadAt b) m entry) (sym (zero-mul n))
+module _ (row : List ℕ) (from : ℕ) (before : List ℕ) where
+  pub copied-none : Copied row from 0 before before
+  copied-none = record { kept = λ w h. refl; copied = λ j h. absurd (not-suc-le-zero h) }
 
-module _ (b : List ℕ) (n i : ℕ) (en : n ≡ tasks b) (few : n ≤ 64) (task : i < n) (entry table row : List ℕ) where
-  -- row i written below the rows before it
-  pub table-next : n * n ≤ length entry → Row b (i + 1) row → table ≡ fillTo (overheadAt b) (i * n) entry
-      → fillTo (written row (i * n) table) (i * n + n) table ≡ fillTo (overheadAt b) ((i + 1) * n) entry
-  table-next room all e =
-      ap (fillTo (written row (i * n) table) (i * n + n)) e
-      ∙ fillTo-over (overheadAt b) (written row (i * n) table) entry (i * n) (i * n + n) (omega arith)
-      ∙ fillTo-cong (written row (i * n) table) (overheadAt b) entry (i * n + n) (λ w h. ⊎-elim (here w h) (before w) (le-or-lt (i * n) w))
-      ∙ ap (λ (m : ℕ). fillTo (overheadAt b) m entry) (sym (add-mul i 1 n ∙ ap (λ (x : ℕ). i * n + x) (one-mul n)))
+  pub copied-next : (j : ℕ) (table : List ℕ) (v : ℕ) → Copied row from j before table → from + j < length table → v ≡ getD row j 0
+      → Copied row from (j + 1) before (set table (from + j) v)
+  copied-next j table v all room e = record {
+    kept = λ w h. getD-set-other table (from + j) w v 0 (λ q. omega arith) ∙ all .kept w h;
+    copied = λ k h. go k h (ℕ-discrete k j);
+  }
     where
-      before : (w : ℕ) → w < i * n → written row (i * n) table w ≡ overheadAt b w
-      before w l =
-          ap (λ (t : Bool). cond t (getD table w 0) (getD row (w - i * n) 0)) (lt-ltb w (i * n) l) ∙ ap (λ xs. getD xs w 0) e
-          ∙ fillTo-below (overheadAt b) entry 0 (i * n) w l (omega (arith, row-within n i task))
-
-      here : (w : ℕ) → w < i * n + n → i * n ≤ w → written row (i * n) table w ≡ overheadAt b w
-      here w h l =
-          let j : ℕ = w - i * n in
-          let small : j < n = omega arith in
-          let sum : i * n + j ≡ w = omega arith in
-          ap (λ (t : Bool). cond t (getD table w 0) (getD row (w - i * n) 0)) (le-ltb w (i * n) l) ∙ row-overhead b i row all j (omega arith)
-          ∙ sym (overheadAt-row b n i j en small) ∙ ap (overheadAt b) sum
-
--- ---- a row written to a table, from word `from` on
-
-module _ (row : List ℕ) (from : ℕ) (table : List ℕ) where
-  pub written-none : table ≡ fillTo (written row from table) (from + 0) table
-  written-none =
-      sym (fillTo-same (written row from table) table (from + 0)
-      (λ w h. ap (λ (t : Bool). cond t (getD table w 0) (getD row (w - from) 0)) (lt-ltb w from (omega arith))))
-
-  pub written-turn : (j : ℕ) {out : List ℕ} {v : ℕ} → out ≡ fillTo (written row from table) (from + j) table → v ≡ getD row j 0
-      → set out (from + j) v ≡ fillTo (written row from table) (from + (j + 1)) table
-  written-turn j e h =
-      let here : from + j - from ≡ j = omega arith in
-      let next : from + j + 1 ≡ from + (j + 1) = omega arith in
-      fillTo-turn (written row from table) table (from + j) e
-      (h ∙ ap (λ (w : ℕ). getD row w 0) (sym here)
-      ∙ ap (λ (t : Bool). cond t (getD table (from + j) 0) (getD row (from + j - from) 0)) (sym (le-ltb (from + j) from (omega arith))))
-      ∙ ap (λ (w : ℕ). fillTo (written row from table) w table) next
+      go : (k : ℕ) → k < j + 1 → Dec (k ≡ j) → getD (set table (from + j) v) (from + k) 0 ≡ getD row k 0
+      go k h (yes q) =
+          ap (λ (i : ℕ). getD (set table (from + j) v) (from + i) 0) q ∙ getD-set-same table (from + j) v 0 room ∙ e ∙ ap (λ (i : ℕ). getD row i 0) (sym q)
+      go k h (no n) =
+          getD-set-other table (from + j) (from + k) v 0 (λ q. n (omega arith)) ∙ all .copied k (let less : k < j = omega (arith, n) in less)

@@ -1,4 +1,4 @@
--- Laws of the places where a board's traces start, and of a walk over the traces of one task.
+-- Laws of the places where a board's traces start, and of a walk over the traces.
 -- Assumes nothing.
 use Prim.Native.Nat.{ℕ, _+_, _≤_, _<_, max}
 use mathlib.Core.List.{List}
@@ -6,20 +6,17 @@ use mathlib.Core.Path.{_≡_, sym, ap, ap₂, subst₂, _∙_}
 use native.Mathlib.Omega.{arith}
 use lib.ListN.{length}
 use Rattle.folds.specs.Folds.{maxTo}
-use Rattle.folds.proofs.Folds.{sumTo-next}
+use Rattle.folds.proofs.Folds.{sumTo-none, sumTo-next}
 use Rattle.folds.proofs.Loops.{maxTo-turn}
-use Rattle.board.specs.Layout.{traces, traceCount, firstTrace, firstInstruction, traceLength}
+use Rattle.board.specs.Layout.{traces, fetchesAt, traceCount, firstTrace, firstInstruction, traceLength}
 use Rattle.board.specs.Sound.{Sound}
 use Rattle.board.proofs.Sound.{traces-fit, trace-fits}
 use Rattle.trace.specs.Traces.{Trace, traceOf}
 use Rattle.trace.specs.Places.{traceAt, Lies}
 use Rattle.trace.proofs.Places.{trace-lies, traceOf-is}
 use Rattle.figures.specs.Ready.{Ready}
-use Rattle.figures.specs.Starts.{startOf, Starts}
+use Rattle.figures.specs.Starts.{startOf, Starts, At}
 use Rattle.figures.specs.Figures.{taskTrace}
-
-pub first-known : (b : List ℕ) (k : ℕ) → Ready b k → firstTrace b k < traces b
-first-known b k ready = omega (arith, traces-fit b (ready .sound) k (ready .task), ready .sound .traceCount k (ready .task))
 
 -- ---- the place of a trace
 
@@ -38,14 +35,16 @@ module _ (b : List ℕ) (r start : ℕ) (s : Starts b r start) (len : ℕ) (e : 
   pub starts-trace : traceAt b start len ≡ traceOf b r
   starts-trace = ap₂ (traceAt b) (s .place) e ∙ sym (traceOf-is b r)
 
--- ---- a walk over the traces of task k: after r of them it stands at the next
+-- ---- a walk over the traces
 
-pub record At (b : List ℕ) (k r trace start : ℕ) : Type 0 where
-  pub known : trace ≡ firstTrace b k + r
-  pub place : start ≡ startOf b trace
+pub at-begin : (b : List ℕ) (start : ℕ) → start ≡ fetchesAt b → At b 0 0 0 start
+unfolding firstTrace firstInstruction
+at-begin b start e = record { known = omega (arith, sumTo-none (traceCount b)); place = omega (arith, sumTo-none (traceLength b)) }
 
-pub at-first : (b : List ℕ) (k trace start : ℕ) → trace ≡ firstTrace b k → start ≡ startOf b (firstTrace b k) → At b k 0 trace start
-at-first b k trace start e p = record { known = omega arith; place = p ∙ ap (startOf b) (sym e) }
+-- past all traces of task k it stands at the first of the next task
+pub at-task : (b : List ℕ) (k r trace start : ℕ) → At b k r trace start → r ≡ traceCount b k → At b (k + 1) 0 trace start
+unfolding firstTrace
+at-task b k r trace start at all = record { known = omega (arith, at .known, sumTo-next (traceCount b) k); place = at .place }
 
 pub at-next : (b : List ℕ) (k r trace start trace' start' : ℕ) → At b k r trace start → trace' ≡ trace + 1 → start' ≡ startOf b (trace + 1)
     → At b k (r + 1) trace' start'

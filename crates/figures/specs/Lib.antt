@@ -4,3 +4,4 @@ pub mod Starts
 pub mod Figures
 pub mod Overhead
 pub mod Rows
+pub mod Survey

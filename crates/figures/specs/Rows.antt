@@ -1,24 +1,33 @@
--- The table of overheads as words, and what its functions hand to each other.
+-- What the functions of the walk over all tasks hand to each other: the sets evicted so far, and a row of overheads.
 -- Assumes nothing.
-use Prim.Native.Nat.{ℕ, _-_, _/_, _%_, _<_, max}
-use mathlib.Core.Bool.{cond}
+use Prim.Native.Nat.{ℕ, _+_, _≤_, _<_, max}
+use mathlib.Core.Bool.{Bool, _&&_}
 use mathlib.Core.List.{List}
 use mathlib.Core.Path.{_≡_}
-use lib.Dec.{ltb, eqb}
+use lib.Dec.{eqb}
 use lib.ListN.{getD}
-use Rattle.folds.specs.Folds.{when, fillTo}
+use Rattle.folds.specs.Folds.{when, anyTo, fillTo}
 use Rattle.bitset.specs.Bits.{wordsOf}
-use Rattle.board.specs.Layout.{tasks, core}
+use Rattle.board.specs.Layout.{core}
 use Rattle.useful.specs.Records.{recordAt}
-use Rattle.figures.specs.Overhead.{evictedBy, γ}
+use Rattle.figures.specs.Figures.{evicting}
+use Rattle.figures.specs.Overhead.{evictedBy}
 
--- word w of the table: γ(i, j) is word i × n + j
-abbrev pub overheadAt : List ℕ → ℕ → ℕ
-overheadAt b w = γ b (w / tasks b) (w % tasks b)
+-- record j of the buffer, for each j below n, holds the ECB of task j
+abbrev pub Evicting : List ℕ → ℕ → List ℕ → Type 0
+Evicting b n sets = (j : ℕ) → j < n → recordAt sets j ≡ wordsOf (evicting b j)
 
--- record j of the buffer, for each j below n, holds the sets that task j evicts
+-- or the sets that task j evicts
 abbrev pub Evicted : List ℕ → ℕ → List ℕ → Type 0
 Evicted b n sets = (j : ℕ) → j < n → recordAt sets j ≡ wordsOf (evictedBy b j)
+
+-- task h is on core x, and s in its ECB
+abbrev pub onCore : List ℕ → ℕ → ℕ → ℕ → Bool
+onCore b x h s = eqb (core b h) x && evicting b h s
+
+-- record x, for each core x, has the ECBs of the tasks on it below j
+unfoldable pub Cores : List ℕ → ℕ → List ℕ → Type 0
+Cores b j sets = (x : ℕ) → x ≤ 8 → recordAt sets x ≡ wordsOf (λ s. anyTo (λ h. onCore b x h s) j)
 
 -- f j for each task j on the core of task i, and 0 for the others
 abbrev pub onCoreOf : List ℕ → ℕ → (ℕ → ℕ) → ℕ → ℕ
@@ -28,6 +37,7 @@ onCoreOf b i f j = when (eqb (core b i) (core b j)) (f j)
 abbrev pub raised : (ℕ → ℕ) → ℕ → List ℕ → List ℕ
 raised f i row = fillTo (λ j. max (getD row j 0) (f j)) i row
 
--- word w of a table into which a row is written, from word `from` on
-abbrev pub written : List ℕ → ℕ → List ℕ → ℕ → ℕ
-written row from table w = cond (ltb w from) (getD table w 0) (getD row (w - from) 0)
+-- a table into which the first n words of a row are written, from word `from` on; the words before stay
+pub record Copied (row : List ℕ) (from n : ℕ) (before after : List ℕ) : Type 0 where
+  pub kept : (w : ℕ) → w < from → getD after w 0 ≡ getD before w 0
+  pub copied : (j : ℕ) → j < n → getD after (from + j) 0 ≡ getD row j 0

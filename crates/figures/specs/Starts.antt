@@ -3,7 +3,7 @@
 use Prim.Native.Nat.{ℕ, _+_, _<_}
 use mathlib.Core.List.{List}
 use mathlib.Core.Path.{_≡_}
-use Rattle.board.specs.Layout.{traces, fetchesAt, firstInstruction}
+use Rattle.board.specs.Layout.{traces, fetchesAt, firstTrace, firstInstruction}
 use Rattle.board.specs.Sound.{Sound}
 
 -- the place of the first fetch word of trace r
@@ -15,3 +15,8 @@ pub record Starts (b : List ℕ) (r start : ℕ) : Type 0 where
   pub sound : Sound b
   pub trace : r < traces b
   pub place : start ≡ startOf b r
+
+-- a walk over the traces stands past r of those of task k
+pub record At (b : List ℕ) (k r trace start : ℕ) : Type 0 where
+  pub known : trace ≡ firstTrace b k + r
+  pub place : start ≡ startOf b trace

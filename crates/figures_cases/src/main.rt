@@ -1,17 +1,17 @@
 // Reads boards from standard input, one to a line, and prints of each the figures, a line a task (its number, core, T, D, PD, MD and the words
 // of its ECB), and the overheads: from the table, a line a task i, and once more those of the last task, each by a call of its own.
 use board::Verdict;
-use board::fields::tasks;
-use figures::Figure;
-use figures::figure_of;
-use figures::preemption::overhead;
-use figures::preemption::overheads;
+use board::fields;
+use figures::survey::overhead;
+use figures::survey::survey;
 use folds::index;
 use folds::wide;
 use libc::STDOUT_FILENO;
 use lines::read_line;
+ghost use mathlib.Core.Path.{_≡_};
 ghost use Prim.Native.Nat.{_+_, _<_, _≤_};
 ghost use lib.ListN.{length};
+ghost use Rattle.board.specs.Layout.{tasks};
 ghost use Rattle.board.specs.Sound.{Sound};
 
 fn main() {
@@ -56,30 +56,36 @@ fn answer(words: &[u32]) {
 fn print_board(board: &[u32])
     requires { ⌜ Sound (now board) ⌝ }
 {
-    print_figures(board);
-    print_overheads(board);
+    let n = index(fields::tasks(board));
+    let mut words = [0u32; 4352];
+    let mut sets = [0u64; 256];
+    survey(board, n, true, &mut words, &mut sets);
+    print_figures(board, n, &words, &sets);
+    print_overheads(n, &words);
     print_last(board);
 }
 
-fn print_figures(board: &[u32])
-    requires { ⌜ Sound (now board) ⌝ }
+fn print_figures(board: &[u32], n: usize, words: &[u32; 4352], sets: &[u64; 256])
+    requires { ⌜ (Sound (now board)) × (n ≡ tasks (now board)) ⌝ }
 {
-    let n = index(tasks(board));
     let mut k: usize = 0;
     while k < n {
-        print_figure(k as u64 + 1, figure_of(board, k));
+        let at = 4 * k;
+        let ecb = [sets[at], sets[at + 1], sets[at + 2], sets[at + 3]];
+        print_figure(board, k, words[2 * n + k], words[3 * n + k], ecb);
         k += 1;
     }
 }
 
-fn print_figure(number: u64, figure: Figure) {
-    let ecb = figure.ecb;
-    io::print_decimal(STDOUT_FILENO, number);
-    print_field(wide(figure.core));
-    print_field(wide(figure.period));
-    print_field(wide(figure.deadline));
-    print_field(wide(figure.pd));
-    print_field(wide(figure.md));
+fn print_figure(board: &[u32], k: usize, pd: u32, md: u32, ecb: [u64; 4])
+    requires { ⌜ (Sound (now board)) × (k < tasks (now board)) ⌝ }
+{
+    io::print_decimal(STDOUT_FILENO, k as u64 + 1);
+    print_field(wide(fields::core(board, k)));
+    print_field(wide(fields::period(board, k)));
+    print_field(wide(fields::deadline(board, k)));
+    print_field(wide(pd));
+    print_field(wide(md));
     print_field(ecb[0]);
     print_field(ecb[1]);
     print_field(ecb[2]);
@@ -87,27 +93,24 @@ fn print_figure(number: u64, figure: Figure) {
     end_line();
 }
 
-fn print_overheads(board: &[u32])
-    requires { ⌜ Sound (now board) ⌝ }
+fn print_overheads(n: usize, words: &[u32; 4352])
+    requires { ⌜ n ≤ 64 ⌝ }
 {
-    let n = index(tasks(board));
-    let mut table = [0u32; 4096];
-    overheads(board, &mut table);
     let mut i: usize = 0;
     while i < n {
-        print_row(&table, i * n, n);
+        print_row(words, 4 * n + i * n, n);
         i += 1;
     }
 }
 
-// A line with n words of the table, from word `from` on.
-fn print_row(table: &[u32], from: usize, n: usize)
-    requires { ⌜ from + n ≤ length (now table) ⌝ }
+// A line with n of the words, from word `from` on.
+fn print_row(words: &[u32; 4352], from: usize, n: usize)
+    requires { ⌜ from + n ≤ 4352 ⌝ }
 {
     io::write_all(STDOUT_FILENO, b"gamma");
     let mut j: usize = 0;
     while j < n {
-        print_field(wide(table[from + j]));
+        print_field(wide(words[from + j]));
         j += 1;
     }
     end_line();
@@ -116,7 +119,7 @@ fn print_row(table: &[u32], from: usize, n: usize)
 fn print_last(board: &[u32])
     requires { ⌜ Sound (now board) ⌝ }
 {
-    let n = index(tasks(board));
+    let n = index(fields::tasks(board));
     io::write_all(STDOUT_FILENO, b"last");
     let mut j: usize = 0;
     while j < n {

@@ -1,8 +1,8 @@
 -- Laws of the sums, maxima, counts and tests: none, one more, equal parts, larger parts, a bound, a prefix.
 -- Assumes nothing.
-use Prim.Native.Nat.{ℕ, zero, suc, _+_, _-_, _*_, _≤_, _<_, zero-le, max}
+use Prim.Native.Nat.{ℕ, zero, suc, _+_, _*_, _≤_, _<_, zero-le, max}
 use mathlib.Core.Bool.{Bool, true, false, _||_}
-use mathlib.Core.Logic.{⊎-elim}
+use mathlib.Core.Logic.{_⊎_, inl, inr, ⊎-elim}
 use mathlib.Core.Path.{_≡_, refl, sym, ap, ap₂}
 use native.Mathlib.Nat.{eq-or-lt-of-le, le-of-suc-le-suc, not-suc-le-zero, suc-mul, add-mul, zero-mul, mul-one, add-zero, add-suc, add-assoc}
 use native.Mathlib.Numerals.{add-one}
@@ -100,20 +100,6 @@ sumWhere-mono test f g n all = sumTo-mono _ _ n (λ k h. when-mono (test k) (all
 pub sumWhere-bound : (test : ℕ → Bool) (f : ℕ → ℕ) (n m : ℕ) → ((k : ℕ) → k < n → f k ≤ m) → sumWhere test f n ≤ n * m
 sumWhere-bound test f n m all = sumTo-bound _ n m (λ k h. when-bound (test k) (all k h))
 
--- what passes lies in the run of n' from m on, and all of it passes
-pub sumWhere-run : (test : ℕ → Bool) (f : ℕ → ℕ) (m n' n : ℕ) → m + n' ≤ n
-    → ((k : ℕ) → k < m → test k ≡ false) → ((k : ℕ) → m ≤ k → k < m + n' → test k ≡ true) → ((k : ℕ) → m + n' ≤ k → k < n → test k ≡ false)
-    → sumWhere test f n ≡ sumTo (λ k. f (m + k)) n'
-sumWhere-run test f m n' n fits before run after =
-    let g : ℕ → ℕ = λ k. when (test k) (f k) in
-    let whole : m + n' + (n - (m + n')) ≡ n = omega arith in
-    let none-before : sumTo g m ≡ 0 = sumTo-zero g m (λ k h. ap (λ t. when t (f k)) (before k h)) in
-    let none-after : sumTo (λ k. g (m + n' + k)) (n - (m + n')) ≡ 0 =
-    sumTo-zero (λ k. g (m + n' + k)) (n - (m + n')) (λ k h. ap (λ t. when t (f (m + n' + k))) (after (m + n' + k) (omega arith) (omega arith))) in
-    let inside : sumTo (λ k. g (m + k)) n' ≡ sumTo (λ k. f (m + k)) n' =
-    sumTo-cong (λ k. g (m + k)) (λ k. f (m + k)) n' (λ k h. ap (λ t. when t (f (m + k))) (run (m + k) (omega arith) (omega arith))) in
-    omega (arith, ap (sumTo g) whole, sumTo-split g (m + n') (n - (m + n')), sumTo-split g m n', none-before, none-after, inside)
-
 -- ---- `maxTo`
 
 pub maxTo-none : (f : ℕ → ℕ) → maxTo f 0 ≡ 0
@@ -139,6 +125,24 @@ unfolding maxTo
 maxTo-bound f zero m all = zero-le
 maxTo-bound f (suc n) m all = omega (arith, maxTo-bound f n m (λ k h. all k (omega arith)), all n (omega arith))
 
+-- each is at most the largest
+pub maxTo-part : (f : ℕ → ℕ) (n k : ℕ) → k < n → f k ≤ maxTo f n
+unfolding maxTo
+maxTo-part f zero k l = absurd (not-suc-le-zero l)
+maxTo-part f (suc n) k l =
+    below-suc (λ j. f j ≤ maxTo f (suc n)) n (λ j h. omega (arith, maxTo-part f n j h)) (omega arith) k l
+
+-- nothing passes the test, or something does
+pub none-or-some : (test : ℕ → Bool) (n : ℕ) → ((k : ℕ) → k < n → test k ≡ false) ⊎ ((k : ℕ) × (k < n) × (test k ≡ true))
+none-or-some test zero = inl (λ k l. absurd (not-suc-le-zero l))
+none-or-some test (suc n) = go (test n) refl (none-or-some test n)
+  where
+    go : (here : Bool) → test n ≡ here → ((k : ℕ) → k < n → test k ≡ false) ⊎ ((k : ℕ) × (k < n) × (test k ≡ true))
+        → ((k : ℕ) → k < suc n → test k ≡ false) ⊎ ((k : ℕ) × (k < suc n) × (test k ≡ true))
+    go true e rest = inr (n, omega arith, e)
+    go false e (inl none) = inl (below-suc (λ k. test k ≡ false) n none e)
+    go false e (inr some) = inr (some .0, (let l : some .0 < n = some .1 in omega arith), some .2)
+
 -- ---- `countTo`
 
 pub countTo-none : (test : ℕ → Bool) → countTo test 0 ≡ 0
@@ -152,6 +156,15 @@ countTo-next test n = sumTo-next (λ k. when (test k) 1) n
 pub countTo-cong : (test test' : ℕ → Bool) (n : ℕ) → ((k : ℕ) → k < n → test k ≡ test' k) → countTo test n ≡ countTo test' n
 unfolding countTo
 countTo-cong test test' n all = sumTo-cong _ _ n (λ k h. ap (λ t. when t 1) (all k h))
+
+-- a test that passes more
+pub countTo-subset : (test test' : ℕ → Bool) (n : ℕ) → ((k : ℕ) → k < n → test k ≡ true → test' k ≡ true) → countTo test n ≤ countTo test' n
+unfolding countTo
+countTo-subset test test' n all = sumTo-mono _ _ n (λ k h. go (test k) (test' k) (all k h))
+  where
+    go : (t t' : Bool) → (t ≡ true → t' ≡ true) → when t 1 ≤ when t' 1
+    go true t' f = rw (f refl) (omega arith)
+    go false t' f = zero-le
 
 pub countTo-bound : (test : ℕ → Bool) (n : ℕ) → countTo test n ≤ n
 unfolding countTo

@@ -44,11 +44,6 @@ module _ {A : Type 0} (f : ℕ → A) (d : A) where
       (getD-at (tabulate f n) (f n) [] d n (length-tabulate n))
       i l
 
-  pub tabulate-is : (n : ℕ) (l : List A) → length l ≡ n → ((i : ℕ) → i < n → getD l i d ≡ f i) → l ≡ tabulate f n
-  tabulate-is n l size all =
-      ext-getD d l (tabulate f n) (size ∙ sym (length-tabulate n))
-      (λ i h. let h′ : i < n = omega arith in all i h′ ∙ sym (getD-tabulate n i h′))
-
 -- ---- `fillTo`
 
 module _ {A : Type 0} (f : ℕ → A) (xs : List A) where

@@ -10,8 +10,8 @@ use native.Mathlib.Omega.{arith}
 use mir.Syntax.{w64}
 use mir.Val.{Fits}
 use lib.ListN.{set}
-use Rattle.folds.specs.Folds.{when, sumTo, maxTo, countTo, anyTo, firstFrom, fillTo}
-use Rattle.folds.proofs.Folds.{sumTo-next, sumTo-prefix, maxTo-next, countTo-next, anyTo-next}
+use Rattle.folds.specs.Folds.{sumTo, maxTo, anyTo, firstFrom, fillTo}
+use Rattle.folds.proofs.Folds.{sumTo-next, sumTo-prefix, maxTo-next, anyTo-next}
 use Rattle.folds.proofs.Lists.{fillTo-next}
 
 -- ---- the end of a loop that counts k up to n
@@ -31,9 +31,6 @@ sumTo-fits f k n e h l cap =
 
 pub maxTo-turn : (f : ℕ → ℕ) (k : ℕ) {acc x : ℕ} → acc ≡ maxTo f k → x ≡ f k → max acc x ≡ maxTo f (k + 1)
 maxTo-turn f k e h = ap₂ max e h ∙ sym (maxTo-next f k)
-
-pub countTo-turn : (test : ℕ → Bool) (k : ℕ) {acc x : ℕ} → acc ≡ countTo test k → x ≡ when (test k) 1 → acc + x ≡ countTo test (k + 1)
-countTo-turn test k e h = ap₂ _+_ e h ∙ sym (countTo-next test k)
 
 pub anyTo-turn : (test : ℕ → Bool) (k : ℕ) {acc x : Bool} → acc ≡ anyTo test k → x ≡ test k → (acc || x) ≡ anyTo test (k + 1)
 anyTo-turn test k e h = ap₂ _||_ e h ∙ sym (anyTo-next test k)

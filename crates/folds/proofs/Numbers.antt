@@ -1,11 +1,11 @@
 -- Laws of numbers, of division rounded up, and of what counts only where a test holds.
 -- Assumes nothing.
-use Prim.Native.Nat.{ℕ, zero, suc, _+_, _-_, _*_, _/_, _≤_, _<_, zero-le}
+use Prim.Native.Nat.{ℕ, zero, suc, _+_, _-_, _*_, _/_, _≤_, _<_, min, zero-le}
 use mathlib.Core.Bool.{Bool, true, false, _&&_}
 use mathlib.Core.Logic.{_⊎_, inl, inr, ⊎-elim}
 use mathlib.Core.Path.{_≡_, refl, sym, subst, _∙_}
 use native.Mathlib.Decide.{decLe, ℕ-discrete}
-use native.Mathlib.Nat.{le-refl, le-trans, le-of-suc-le-suc, eq-or-lt-of-le, lt-of-not-le, suc-mul, mul-suc, zero-lt-suc, div-zero, div-mul-le-self, le-div-iff-mul-le, div-lt-iff-lt-mul}
+use native.Mathlib.Nat.{le-refl, zero-mul, le-trans, le-of-suc-le-suc, eq-or-lt-of-le, lt-of-not-le, suc-mul, mul-suc, zero-lt-suc, div-zero, div-mul-le-self, le-div-iff-mul-le, div-lt-iff-lt-mul}
 use native.Mathlib.Omega.{arith}
 use lib.Dec.{eqb}
 use borrow.Author.Tests.{eq-eqb, ne-eqb}
@@ -49,6 +49,14 @@ pub ceilDiv-self : (a b : ℕ) → ceilDiv a b ≤ a
 unfolding ceilDiv
 ceilDiv-self a zero = omega (arith, div-zero (a + (0 - 1)))
 ceilDiv-self a (suc b) = le-of-suc-le-suc (div-lt-iff-lt-mul (zero-lt-suc b) .1 (rw suc-mul (omega (arith, mul-suc a b))))
+
+-- a that is at most b fits once, unless it is 0
+pub ceilDiv-once : (a b : ℕ) → 0 < b → a ≤ b → ceilDiv a b ≡ min a 1
+ceilDiv-once a b p h = omega (arith, ceilDiv-self a b, ceilDiv-least {a = a} {k = 1} {b = b} p (omega arith), some (ceilDiv a b) (ceilDiv-covers a p))
+  where
+    some : (k : ℕ) → a ≤ k * b → min a 1 ≤ k
+    some zero h = omega (arith, zero-mul b)
+    some (suc k) h = omega arith
 
 -- ---- Laws of `when`
 

@@ -43,10 +43,14 @@ pub fn less(x: u64, y: u64) -> u64
     if x < y { 0 } else { x - y }
 }
 
-// x / y rounded up.
+// x / y rounded up: no division where x is at most y.
 pub fn ceil_div(x: u64, y: u64) -> u64
     requires { ⌜ (0 < y) × (x + y ≤ 2 ^ 64) ⌝ }
     ensures { λ r. ⌜ (r ≡ ceilDiv x y) × (r ≤ x) ⌝ }
 {
-    (x + (y - 1)) / y
+    if x <= y {
+        smaller(x, 1)
+    } else {
+        (x + (y - 1)) / y
+    }
 }

@@ -1,97 +1,80 @@
--- The scratch after each step of its preparation.
+-- The scratch after each step of its preparation, and what a sum takes from it.
 -- Assumes nothing.
-use Prim.Native.Nat.{ℕ, _+_, _-_, _*_, _/_, _%_, _≤_, _<_}
-use mathlib.Core.List.{List, _++_}
-use mathlib.Core.Path.{_≡_, ap, ap₂, sym, subst, _∙_}
-use native.Mathlib.Nat.{add-comm, suc-mul, mul-le-mul-right, mod-lt, mod-eq-of-lt, div-eq-of-lt, mul-add-div-right, mul-add-mod-self-right}
+use Prim.Native.Nat.{ℕ, _+_, _-_, _*_, _≤_, _<_}
+use mathlib.Core.List.{List}
+use mathlib.Core.Bool.{true}
+use mathlib.Core.Path.{_≡_, refl, sym, ap, ap₂, subst, _∙_}
+use native.Mathlib.Nat.{add-comm}
 use native.Mathlib.Omega.{arith}
 use lib.ListN.{length, getD, take, drop, length-drop}
 use lib.Seq.{length-take-le, getD-take, getD-drop}
-use Rattle.folds.specs.Folds.{fillTo}
 use Rattle.board.specs.Layout as at
+use Rattle.board.specs.Sound.{Sound}
 use Rattle.figures.specs.Figures.{taskPD, taskMD}
 use Rattle.figures.specs.Overhead.{γ}
+use Rattle.figures.specs.Survey.{Held, Overheads}
+use Rattle.figures.proofs.Fillable.{held-tasks}
 use Rattle.figures.proofs.Bounds.{taskMD-bound, γ-bound}
 use Rattle.sums.specs.Sums.{memoryDemand}
 use Rattle.sums.specs.Inputs.{Holds, Times, SumInput}
 use Rattle.scratch.specs.Stored.{Stored}
-use Rattle.scratch.specs.Scratch.{Room, Addable, withMD, Prepared}
-use Rattle.scratch.proofs.Stored.{stored-part}
+use Rattle.scratch.specs.Scratch.{Room, withMD, Addable, Added, Prepared}
 
--- word i × n + k of the rows is in row i and column k
-module _ {i k n : ℕ} (row : i < n) (column : k < n) where
-  pub word-below : i * n + k < n * n
-  word-below = omega (arith, suc-mul i n, mul-le-mul-right n row)
+-- what is kept where as many words are
+pub room-kept : {b : List ℕ} {n : ℕ} {w w' : List ℕ} → Room b n w → length w' ≡ length w → Room b n w'
+room-kept room e = record { sound = room .sound; tasks = room .tasks; words = rw e (room .words) }
 
-  word-row : (i * n + k) / n ≡ i
-  word-row = omega (arith, mul-add-div-right {m = n} (omega arith) i k, div-eq-of-lt column)
+-- what a survey of every task asks
+pub surveyable : {b : List ℕ} {n : ℕ} {w : List ℕ} → Room b n w
+    → (Sound b) × (n ≤ at.tasks b) × (4 * at.tasks b ≤ length w) × (true ≡ true → at.tasks b * at.tasks b + 4 * at.tasks b ≤ length w)
+surveyable {b} {n} {w} room =
+    let words : at.tasks b * at.tasks b + 4 * at.tasks b ≤ length w = rw (← room .tasks) (room .words) in
+    (room .sound, omega (arith, room .tasks), omega arith, λ _. words)
 
-  word-column : (i * n + k) % n ≡ k
-  word-column = mul-add-mod-self-right i n k ∙ mod-eq-of-lt column
+-- what it leaves: the figures and the overheads are in w₁
+module _ {b : List ℕ} {n : ℕ} {w₀ w₁ sets : List ℕ} (room : Room b n w₀)
+    (surveyed : (Held b (at.tasks b) n w₁ sets) × (true ≡ true → Overheads b (at.tasks b) n w₁) × (length w₁ ≡ length w₀)) where
+  held : Held b n n w₁ sets
+  held = held-tasks (room .tasks) (surveyed .0)
 
--- the part that the rows lie in
-module _ {b : List ℕ} {n : ℕ} {w : List ℕ} (room : Room b n w) where
-  pub rows-fit : at.tasks b * at.tasks b ≤ length (take (length w - 4 * n) (drop (4 * n) w))
-  rows-fit =
-      let size : length (take (length w - 4 * n) (drop (4 * n) w)) ≡ length w - 4 * n =
-      length-take-le (length w - 4 * n) (drop (4 * n) w) (omega (arith, length-drop (4 * n) w)) in
-      rw (← room .tasks) (omega (arith, room .words))
+  over : Overheads b n n w₁
+  over = subst (λ (m : ℕ). Overheads b m n w₁) (sym (room .tasks)) (surveyed .1 refl)
 
-  pub rows-stored : {p : List ℕ}
-      → p ≡ fillTo (λ q. γ b (q / at.tasks b) (q % at.tasks b)) (at.tasks b * at.tasks b) (take (length w - 4 * n) (drop (4 * n) w))
-      → Stored (λ q. γ b (q / n) (q % n)) (4 * n) (n * n) w (take (4 * n) w ++ (p ++ drop (length w - 4 * n) (drop (4 * n) w)))
-  rows-stored {p} e =
-      stored-part (λ q. γ b (q / n) (q % n)) (4 * n) (length w - 4 * n) (n * n) w p (omega (arith, room .words)) (omega (arith, room .words))
-      (e
-      ∙ ap (λ (m : ℕ). fillTo (λ q. γ b (q / m) (q % m)) (m * m) (take (length w - 4 * n) (drop (4 * n) w))) (sym (room .tasks)))
+  size : length w₁ ≡ length w₀
+  size = surveyed .2
 
-module _ {b : List ℕ} {n : ℕ} {w₀ w₁ : List ℕ} (room : Room b n w₀) where
-  -- what is kept where as many words are
-  pub room-kept : length w₁ ≡ length w₀ → Room b n w₁
-  room-kept e = record { sound = room .sound; tasks = room .tasks; words = rw e (room .words) }
+  demands : (i k : ℕ) → i < n → k < n → withMD n (4 * n + i * n) w₁ k ≡ γ b i k + taskMD b k
+  demands i k row column =
+      let place : 4 * n + i * n + k ≡ 4 * n + (i * n + k) = omega arith in
+      ap₂ _+_ (ap (λ (p : ℕ). getD w₁ p 0) place ∙ over i k row column) (held .md k column)
 
-  module _ (pd : Stored (taskPD b) (2 * n) n w₀ w₁) {w₂ : List ℕ} (md : Stored (taskMD b) (3 * n) n w₁ w₂)
-      {w₃ : List ℕ} (over : Stored (λ p. γ b (p / n) (p % n)) (4 * n) (n * n) w₂ w₃) where
-    some : 0 < n
-    some = omega (arith, room .sound .tasks .0, room .tasks)
-
-    demands : (p : ℕ) → p < n * n → withMD n w₃ p ≡ γ b (p / n) (p % n) + taskMD b (p % n)
-    demands p h =
-        let column : p % n < n = mod-lt p some in
-        ap₂ _+_ (over .part p h) (over .before (3 * n + p % n) (omega arith) ∙ md .part (p % n) column)
-
-    size : length w₃ ≡ length w₀
-    size = over .size ∙ md .size ∙ pd .size
-
-    pub addable : Addable n w₃
-    addable =
-        record {
-          tasks = rw (room .tasks) (room .sound .tasks);
-          words = rw size (room .words);
-          fits = λ p h.
-              let column : p % n < at.tasks b = omega (arith, mod-lt p some, room .tasks) in
-              omega (arith, demands p h, γ-bound b (p / n) (p % n), taskMD-bound b (room .sound) (p % n) column);
-        }
-
-    pub prepared : {w₄ : List ℕ} → Stored (withMD n w₃) (4 * n) (n * n) w₃ w₄ → (Prepared b n w₄) × (length w₄ ≡ length w₀)
-    unfolding memoryDemand
-    prepared {w₄} added = (
+  pub addable : Addable n w₁
+  addable =
       record {
-        room = record { sound = room .sound; tasks = room .tasks; words = rw (added .size ∙ size) (room .words) };
-        works = λ k h.
-            added .before (2 * n + k) (omega arith)
-            ∙ over .before (2 * n + k) (omega arith)
-            ∙ md .before (2 * n + k) (omega arith)
-            ∙ pd .part k h;
-        rows = λ i k row column.
-            let below : i * n + k < n * n = word-below row column in
-            added .part (i * n + k) below
-            ∙ demands (i * n + k) below
-            ∙ ap₂ (λ (j : ℕ) (c : ℕ). γ b j c + taskMD b c) (word-row row column) (word-column row column)
-            ∙ add-comm (γ b i k) (taskMD b k);
-      },
-      added .size ∙ size,
-    )
+        few = omega (arith, room .tasks, room .sound .tasks);
+        words = rw size (room .words);
+        fits = λ i k row column.
+            let task : k < at.tasks b = omega (arith, room .tasks) in
+            omega (arith, demands i k row column, γ-bound b i k, taskMD-bound b (room .sound) k task);
+      }
+
+  pub prepared : {w₂ : List ℕ} → Added n n w₁ w₂ → (Prepared b n w₂) × (length w₂ ≡ length w₀) × (Held b n n w₂ sets)
+  unfolding memoryDemand
+  prepared {w₂} added = (
+    record {
+      room = room-kept room (added .size ∙ size);
+      works = λ k h. added .before (2 * n + k) (omega arith) ∙ held .pd k h;
+      rows = λ i k row column.
+          let place : 4 * n + (i * n + k) ≡ 4 * n + i * n + k = omega arith in
+          ap (λ (p : ℕ). getD w₂ p 0) place ∙ added .rows i k row column ∙ demands i k row column ∙ add-comm (γ b i k) (taskMD b k);
+    },
+    added .size ∙ size,
+    record {
+      pd = λ k h. added .before (2 * n + k) (omega arith) ∙ held .pd k h;
+      md = λ k h. added .before (3 * n + k) (omega arith) ∙ held .md k h;
+      ecb = held .ecb;
+    },
+  )
 
 -- ---- a prepared scratch
 

@@ -1,11 +1,11 @@
 -- The word scratch of n tasks, n × n + 4n words: times n | next times n | PD n | MD n | the rows D'(i, _), n words each.
 -- Assumes nothing.
-use Prim.Native.Nat.{ℕ, _+_, _*_, _%_, _^_, _≤_, _<_}
+use Prim.Native.Nat.{ℕ, _+_, _*_, _^_, _≤_, _<_}
 use mathlib.Core.List.{List}
 use mathlib.Core.Path.{_≡_}
 use lib.ListN.{length, getD}
 use Rattle.board.specs.Layout as at
-use Rattle.board.specs.Sound.{Between, Sound}
+use Rattle.board.specs.Sound.{Sound}
 use Rattle.figures.specs.Figures.{taskPD}
 use Rattle.sums.specs.Sums.{memoryDemand}
 
@@ -15,15 +15,29 @@ pub record Room (b : List ℕ) (n : ℕ) (w : List ℕ) : Type 0 where
   pub tasks : n ≡ at.tasks b
   pub words : n * n + 4 * n ≤ length w
 
--- word w of the rows, with its column's MD added
-abbrev pub withMD : ℕ → List ℕ → ℕ → ℕ
-withMD n w p = getD w (4 * n + p) 0 + getD w (3 * n + p % n) 0
+-- word k of the row at `at`, with the MD of task k added
+abbrev pub withMD : ℕ → ℕ → List ℕ → ℕ → ℕ
+withMD n at w k = getD w (at + k) 0 + getD w (3 * n + k) 0
 
--- rows to which MD can be added: they are there, and every sum fits a word
+-- a row to which MD can be added: it is there, after the MD, and every sum fits a word
+pub record RowAddable (n at : ℕ) (w : List ℕ) : Type 0 where
+  pub few : n ≤ 64
+  pub behind : 4 * n ≤ at
+  pub words : at + n ≤ length w
+  pub fits : (k : ℕ) → k < n → withMD n at w k < 2 ^ 32
+
+-- n such rows, from word 4n on
 pub record Addable (n : ℕ) (w : List ℕ) : Type 0 where
-  pub tasks : Between 1 64 n
+  pub few : n ≤ 64
   pub words : n * n + 4 * n ≤ length w
-  pub fits : (p : ℕ) → p < n * n → withMD n w p < 2 ^ 32
+  pub fits : (i k : ℕ) → i < n → k < n → withMD n (4 * n + i * n) w k < 2 ^ 32
+
+-- w' is w with MD added to the first `count` rows
+pub record Added (n count : ℕ) (w w' : List ℕ) : Type 0 where
+  pub size : length w' ≡ length w
+  pub rows : (i k : ℕ) → i < count → k < n → getD w' (4 * n + i * n + k) 0 ≡ withMD n (4 * n + i * n) w k
+  pub before : (p : ℕ) → p < 4 * n → getD w' p 0 ≡ getD w p 0
+  pub after : (p : ℕ) → 4 * n + count * n ≤ p → getD w' p 0 ≡ getD w p 0
 
 -- each task's PD, and D'(i, k) of each pair
 pub record Prepared (b : List ℕ) (n : ℕ) (w : List ℕ) : Type 0 where

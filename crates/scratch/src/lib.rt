@@ -1,74 +1,48 @@
 // The word scratch: the figures of every task, laid out for the passes, and a task's sum from them.
 ghost use mathlib.Core.Path.{_≡_};
-ghost use Prim.Native.Nat.{_+_, _*_, _/_, _%_, _<_, _≤_};
+ghost use Prim.Native.Nat.{_+_, _*_, _<_, _≤_};
 ghost use lib.ListN.{length};
-ghost use Rattle.figures.specs.Figures.{taskPD, taskMD};
-ghost use Rattle.figures.specs.Overhead.{γ};
+ghost use Rattle.figures.specs.Survey.{Held};
 ghost use Rattle.sums.specs.Sums.{taskSum};
 ghost use Rattle.sums.specs.Inputs.{Times};
 ghost use Rattle.scratch.specs.Stored.{Stored};
-ghost use Rattle.scratch.specs.Scratch.{Room, Addable, withMD, Prepared};
+ghost use Rattle.scratch.specs.Scratch.{Room, RowAddable, withMD, Addable, Added, Prepared};
 
-// Writes the PD of every task.
-fn fill_pd(board: &[u32], n: usize, scratch: &mut [u32])
-    requires { ⌜ Room (now board) n (now scratch) ⌝ }
-    ensures { λ _. ⌜ Stored (taskPD (now (board .entry))) (2 * n) n (now (scratch .entry)) (now (scratch .exit)) ⌝ }
+// Adds each task's MD to its word of the row at `at`.
+fn add_row(n: usize, at: usize, scratch: &mut [u32])
+    requires { ⌜ RowAddable n at (now scratch) ⌝ }
+    ensures { λ _. ⌜ Stored (withMD n at (now (scratch .entry))) at n (now (scratch .entry)) (now (scratch .exit)) ⌝ }
 {
-    let at = 2 * n;
+    let md = 3 * n;
     let mut k = 0;
     while k < n {
-        let figure = figures::task_pd(board, k);
-        scratch[at + k] = figure;
+        let demand = scratch[at + k] + scratch[md + k];
+        scratch[at + k] = demand;
         k += 1;
     }
-}
-
-// Writes the MD of every task.
-fn fill_md(board: &[u32], n: usize, scratch: &mut [u32])
-    requires { ⌜ Room (now board) n (now scratch) ⌝ }
-    ensures { λ _. ⌜ Stored (taskMD (now (board .entry))) (3 * n) n (now (scratch .entry)) (now (scratch .exit)) ⌝ }
-{
-    let at = 3 * n;
-    let mut k = 0;
-    while k < n {
-        let figure = figures::task_md(board, k);
-        scratch[at + k] = figure;
-        k += 1;
-    }
-}
-
-// Writes γ(i, k) into the rows.
-fn fill_overheads(board: &[u32], n: usize, scratch: &mut [u32])
-    requires { ⌜ Room (now board) n (now scratch) ⌝ }
-    ensures { λ _. ⌜ Stored (λ w. γ (now (board .entry)) (w / n) (w % n)) (4 * n) (n * n) (now (scratch .entry)) (now (scratch .exit)) ⌝ }
-{
-    figures::preemption::overheads(board, &mut scratch[4 * n..]);
 }
 
 // Adds each column's MD to the rows.
 fn add_md(n: usize, scratch: &mut [u32])
     requires { ⌜ Addable n (now scratch) ⌝ }
-    ensures { λ _. ⌜ Stored (withMD n (now (scratch .entry))) (4 * n) (n * n) (now (scratch .entry)) (now (scratch .exit)) ⌝ }
+    ensures { λ _. ⌜ Added n n (now (scratch .entry)) (now (scratch .exit)) ⌝ }
 {
-    let md = 3 * n;
-    let rows = 4 * n;
-    let end = n * n;
-    let mut w = 0;
-    while w < end {
-        let demand = scratch[rows + w] + scratch[md + w % n];
-        scratch[rows + w] = demand;
-        w += 1;
+    let mut at = 4 * n;
+    let mut i = 0;
+    while i < n {
+        add_row(n, at, scratch);
+        at += n;
+        i += 1;
     }
 }
 
-// Lays out the figures of every task.
-pub fn prepare(board: &[u32], n: usize, scratch: &mut [u32])
+// Lays out the figures of every task, with each task's ECB as a record of the sets.
+pub fn prepare(board: &[u32], n: usize, scratch: &mut [u32], sets: &mut [u64; 256])
     requires { ⌜ Room (now board) n (now scratch) ⌝ }
-    ensures { λ _. ⌜ (Prepared (now (board .entry)) n (now (scratch .exit))) × (length (now (scratch .exit)) ≡ length (now (scratch .entry))) ⌝ }
+    ensures { λ _. ⌜ (Prepared (now (board .entry)) n (now (scratch .exit))) × (length (now (scratch .exit)) ≡ length (now (scratch .entry)))
+        × (Held (now (board .entry)) n n (now (scratch .exit)) (now (sets .exit))) ⌝ }
 {
-    fill_pd(board, n, scratch);
-    fill_md(board, n, scratch);
-    fill_overheads(board, n, scratch);
+    figures::survey::survey(board, n, true, scratch, sets);
     add_md(n, scratch);
 }
 

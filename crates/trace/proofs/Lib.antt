@@ -5,7 +5,6 @@ pub mod Slots
 pub mod Sets
 pub mod Counts
 pub mod Scans
-pub mod Misses
 pub mod Bounds
 pub mod Touched
 pub mod Accessor

@@ -1,14 +1,11 @@
 -- The loads of a trace as the code scans them: slot 2p is the fetch of instruction p, slot 2p + 1 its read; a slot holds the block + 1, and
 -- 0 where it loads nothing. Only the code's loops and proofs/Slots.antt speak of slots: a reader of the definitions can pass this file by.
 -- Assumes nothing.
-use Prim.Native.Nat.{ℕ, zero, suc, _+_, _-_, _/_, _%_, _≤_, _<_}
-use mathlib.Core.Path.{_≡_}
-use mathlib.Core.List.{List}
-use mathlib.Core.Bool.{Bool, false, not, cond, _&&_, _||_}
+use Prim.Native.Nat.{ℕ, zero, suc, _+_, _-_, _/_, _%_}
+use mathlib.Core.Bool.{Bool, not, cond, _&&_, _||_}
 use lib.Dec.{leb, eqb}
-use lib.ListN.{getD, set}
 use Rattle.folds.specs.Folds.{when}
-use Rattle.board.specs.Layout.{kindOf, blockOf}
+use Rattle.board.specs.Layout.{kindOf}
 use Rattle.trace.specs.Cache.{setOf}
 use Rattle.trace.specs.Traces.{Trace, fetch, work, reads, writes, dataBlock}
 
@@ -40,24 +37,9 @@ usefulBefore l c n e s = not (eqb (lastSlot l c s e) 0) && eqb (lastSlot l c s e
 unfoldable pub kept : (ℕ → ℕ) → ℕ → ℕ → ℕ → Bool
 kept l c n e = eqb (l e) (firstSlot l c (slotSet c (l e)) (e + 1) (n - (e + 1)))
 
--- the flags of the slots from e on that load, in a run of n
-abbrev pub Flags : (ℕ → ℕ) → ℕ → ℕ → List Bool → ℕ → Type 0
-Flags l c n flags e = (i : ℕ) → e ≤ i → i < n → (l i ≡ 0 → ⊥) → getD flags i false ≡ kept l c n i
-
 -- whether the load in slot e misses
 unfoldable pub slotMisses : (ℕ → ℕ) → ℕ → ℕ → Bool
 slotMisses l c e = not (eqb (l e) 0) && not (eqb (lastSlot l c (slotSet c (l e)) e) (l e))
-
--- an array of the last load of each set, 0 where there is none: whether a load x misses, and the array after it
-unfoldable pub missesIn : ℕ → List ℕ → ℕ → Bool
-missesIn c last x = not (eqb x 0) && not (eqb (getD last (slotSet c x) 0) x)
-
-unfoldable pub afterLoad : ℕ → List ℕ → ℕ → List ℕ
-afterLoad c last x = cond (eqb x 0) last (set last (slotSet c x) x)
-
--- what a work word loads, as a slot's number
-unfoldable pub readSlot : ℕ → ℕ
-readSlot w = cond (eqb (kindOf w) 1) (blockOf w + 1) 0
 
 -- without a cache: the bus accesses of instruction p, where fetches of blocks from `low` on and reads of blocks from `high` on use the bus
 unfoldable pub accesses : Trace → ℕ → ℕ → ℕ → ℕ

@@ -1,8 +1,6 @@
 // One trace of a task: its instructions, its loads, and what they find in memory.
 pub mod cache;
 pub mod demand;
-pub mod evicting;
-pub mod slot;
 
 use folds::index;
 ghost use mathlib.Core.Path.{_≡_};

@@ -1,6 +1,7 @@
 -- The laws that join the records and the code's scans to the definitions.
-pub mod Subsets
 pub mod Writes
+pub mod Evicting
+pub mod Marking
 pub mod Passing
 pub mod Recording
 pub mod Points

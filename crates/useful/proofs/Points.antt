@@ -1,46 +1,19 @@
 -- The largest number over the records of a trace is the largest over its points.
 -- Assumes nothing.
-use Prim.Native.Nat.{ℕ, zero, suc, _+_, _≤_, _<_, zero-le, max}
+use Prim.Native.Nat.{ℕ, _+_, _≤_, _<_, max}
 use mathlib.Core.Path.{_≡_, refl, ap, _∙_}
 use mathlib.Core.Bool.{Bool, true, false, _&&_, false≢true}
 use mathlib.Core.List.{List}
-use mathlib.Core.Logic.{_⊎_, inl, inr, ⊎-elim}
-use native.Mathlib.Nat.{le-antisymm, le-trans, le-of-eq, not-suc-le-zero}
+use mathlib.Core.Logic.{⊎-elim}
+use native.Mathlib.Nat.{le-antisymm, le-trans, le-of-eq}
 use native.Mathlib.Omega.{arith}
-use Rattle.folds.specs.Folds.{when, maxTo, countTo}
-use Rattle.folds.proofs.Numbers.{below-suc}
+use Rattle.folds.specs.Folds.{maxTo, countTo}
 use Rattle.folds.proofs.Loops.{maxTo-turn}
-use Rattle.folds.proofs.Folds.{maxTo-none, maxTo-bound, sumTo-mono, countTo-zero, countTo-cong, countTo-bound}
+use Rattle.folds.proofs.Folds.{maxTo-part, none-or-some, maxTo-none, maxTo-bound, countTo-zero, countTo-cong, countTo-subset, countTo-bound}
 use Rattle.bitset.specs.Bits.{member}
 use Rattle.bitset.proofs.Sets.{member-wordsOf}
 use Rattle.trace.specs.Traces.{Trace, useful, usefulAt, mostUseful}
 use Rattle.useful.specs.Records.{recordAt, Recorded, mostCommon}
-
--- one of the largest
-pub maxTo-part : (f : ℕ → ℕ) (n k : ℕ) → k < n → f k ≤ maxTo f n
-unfolding maxTo
-maxTo-part f zero k l = absurd (not-suc-le-zero l)
-maxTo-part f (suc n) k l =
-    below-suc (λ j. f j ≤ maxTo f (suc n)) n (λ j h. omega (arith, maxTo-part f n j h)) (omega arith) k l
-
--- nothing passes the test, or something does
-none-or-some : (test : ℕ → Bool) (n : ℕ) → ((k : ℕ) → k < n → test k ≡ false) ⊎ ((k : ℕ) × (k < n) × (test k ≡ true))
-none-or-some test zero = inl (λ k l. absurd (not-suc-le-zero l))
-none-or-some test (suc n) = go (test n) refl (none-or-some test n)
-  where
-    go : (here : Bool) → test n ≡ here → ((k : ℕ) → k < n → test k ≡ false) ⊎ ((k : ℕ) × (k < n) × (test k ≡ true))
-        → ((k : ℕ) → k < suc n → test k ≡ false) ⊎ ((k : ℕ) × (k < suc n) × (test k ≡ true))
-    go true e rest = inr (n, omega arith, e)
-    go false e (inl none) = inl (below-suc (λ k. test k ≡ false) n none e)
-    go false e (inr some) = inr (some .0, (let l : some .0 < n = some .1 in omega arith), some .2)
-
-countTo-subset : (test test' : ℕ → Bool) (n : ℕ) → ((k : ℕ) → k < n → test k ≡ true → test' k ≡ true) → countTo test n ≤ countTo test' n
-unfolding countTo
-countTo-subset test test' n all = sumTo-mono _ _ n (λ k h. go (test k) (test' k) (all k h))
-  where
-    go : (t t' : Bool) → (t ≡ true → t' ≡ true) → when t 1 ≤ when t' 1
-    go true t' f = rw (f refl) (omega arith)
-    go false t' f = zero-le
 
 and-subset : (a b c : Bool) → (a ≡ true → b ≡ true) → (a && c) ≡ true → (b && c) ≡ true
 and-subset true b c f e = rw (f refl) e

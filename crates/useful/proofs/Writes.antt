@@ -11,9 +11,6 @@ use lib.Seq.{getD-set-same, getD-set-other}
 use Rattle.bitset.specs.Bits.{wordsOf}
 use Rattle.useful.specs.Records.{recordAt, withRecord}
 
-pub length-withRecord : (lives : List ℕ) (q : ℕ) (words : List ℕ) → length (withRecord lives q words) ≡ length lives
-length-withRecord lives q words = simp length-set
-
 module _ (lives : List ℕ) (m : ℕ) (words : List ℕ) where
   abbrev one : List ℕ
   one = set lives (4 * m) (getD words 0 0)

@@ -1,3 +1,3 @@
 -- The useful sets of a trace at its points, as the code finds them and hands them over.
 pub mod Records
-pub mod Passing
+pub mod Marks

@@ -1,125 +1,95 @@
-// The useful sets of a trace at its points, in two scans of its loads: backwards for the loads that find their block again, forwards for the
-// sets that are useful at each point.
+// The memory demand, the evicting cache blocks and the useful sets of a trace, in two scans: backwards over its instructions, and forwards over
+// the marks that the first scan made of its loads.
+mod marks;
 pub mod records;
+mod slots;
 
 use board::fields::memory;
-use folds::index;
-use folds::one_if;
-use records::subset;
-use records::write;
-use trace::cache::Cache;
+use marks::mark_trace;
+use records::write_if;
+use slots::ends;
+use slots::pass_slot;
 use trace::cache::cache_of;
-use trace::cache::set_of;
-use trace::slot::load_at;
+use trace::demand::uncached_md;
 ghost use mathlib.Core.Path.{_≡_};
-ghost use Prim.Native.Nat.{ℕ, _+_, _*_, _≤_, _<_};
+ghost use mathlib.Core.Bool.{_||_};
+ghost use Prim.Native.Nat.{ℕ, _*_, _≤_};
 ghost use lib.ListN.{length};
 ghost use Rattle.board.specs.Layout as at;
 ghost use Rattle.board.specs.Sound.{Sound};
 ghost use Rattle.bitset.specs.Bits.{member, wordsOf};
+ghost use Rattle.trace.specs.Traces.{traceMD, evicts};
 ghost use Rattle.trace.specs.Places.{traceAt, Lies};
-ghost use Rattle.trace.specs.Reciprocal.{Sets};
-ghost use Rattle.trace.specs.Slots.{loadAt, Flags};
 ghost use Rattle.useful.specs.Records.{Recorded};
-ghost use Rattle.useful.specs.Passing.{passed, passedBoth};
 
-// Records the useful sets of points of a trace in `lives`, four words a record, so that every point's useful sets are among those of a
-// recorded point. The number of records; none without a cache.
-pub fn useful_sets(board: &[u32], start: usize, len: usize, lives: &mut [u64]) -> usize
-    requires { ⌜ (Sound (now board)) × (Lies (now board) start len) × (4 * len ≤ length (now lives)) ⌝ }
-    ensures { λ r. ⌜ (Recorded (traceAt (now (board .entry)) start len) (now (lives .exit)) r) × (length (now (lives .exit)) ≡ length (now (lives .entry))) ⌝ }
-{
-    let kind = memory(board);
-    match kind {
-        2 => record_points(board, start, len, cache_of(board), lives),
-        _ => 0,
-    }
+// What a survey of a trace found: its bus accesses, and the number of points recorded.
+pub struct Surveyed {
+    pub md: u32,
+    pub records: usize,
 }
 
-// For each slot that loads: whether the next load in its set is of the same block.
-fn kept_flags(board: &[u32], start: usize, len: usize, cache: Cache) -> [bool; 2048]
-    requires { ⌜ (Sound (now board)) × (Lies (now board) start len) × (Sets (cache .sets) (cache .inverse)) ⌝ }
-    ensures { λ r. ⌜ Flags (loadAt (traceAt (now (board .entry)) start len)) (cache .sets) (2 * len) r 0 ⌝ }
-{
-    let mut flags = [false; 2048];
-    let mut first = [0u32; 256];
-    let mut e: usize = 2 * len;
-    while 0 < e {
-        e -= 1;
-        let x = load_at(board, start, len, e);
-        if x != 0 {
-            let s = set_of(cache, x - 1);
-            flags[e] = first[s] == x;
-            first[s] = x;
-        }
-    }
-    flags
-}
-
-// The useful sets after a slot with load x: its own set is useful where the load is kept.
-fn pass_slot(cache: Cache, live: [u64; 4], x: u32, keep: bool) -> [u64; 4]
-    requires { ⌜ (Sets (cache .sets) (cache .inverse)) × (x ≤ 65536) ⌝ }
-    ensures { λ r. ⌜ r ≡ wordsOf (passed (cache .sets) x keep (member live)) ⌝ }
-{
-    if x == 0 {
-        return live;
-    }
-    let s = set_of(cache, x - 1);
-    if keep {
-        return bitset::insert(live, s);
-    }
-    bitset::remove(live, s)
-}
-
-// The useful sets after instruction p; `first` and `second` are the flags of its fetch and of its read.
-fn pass_point(
+// MD of a trace; its evicting cache blocks are added to `ecb`, and the useful sets of some of its points recorded in `lives`, four words a
+// record, so that every point's useful sets are among those of a recorded point. Without a cache nothing is evicted or useful.
+pub fn survey(
     board: &[u32],
     start: usize,
     len: usize,
-    cache: Cache,
-    p: usize,
-    live: [u64; 4],
-    first: bool,
-    second: bool,
-) -> [u64; 4]
-    requires { ⌜ (Sound (now board)) × (Lies (now board) start len) × (p < len) × (Sets (cache .sets) (cache .inverse)) ⌝ }
-    ensures { λ r. ⌜ r ≡ wordsOf (passedBoth (traceAt (now (board .entry)) start len) (cache .sets) p first second (member live)) ⌝ }
+    ecb: &mut [u64],
+    marks: &mut [u32],
+    lives: &mut [u64],
+) -> Surveyed
+    requires { ⌜ (Sound (now board)) × (Lies (now board) start len) × (length (now ecb) ≡ 4) × (2 * len ≤ length (now marks)) × (4 * len ≤ length (now lives)) ⌝ }
+    ensures { λ r. ⌜ (r .md ≡ traceMD (traceAt (now (board .entry)) start len))
+        × (Recorded (traceAt (now (board .entry)) start len) (now (lives .exit)) (r .records))
+        × (now (ecb .exit) ≡ wordsOf (λ (s : ℕ). member (now (ecb .entry)) s || evicts (traceAt (now (board .entry)) start len) s))
+        × (length (now (marks .exit)) ≡ length (now (marks .entry))) × (length (now (lives .exit)) ≡ length (now (lives .entry))) ⌝ }
 {
-    let x = load_at(board, start, len, 2 * p);
-    let fetched = pass_slot(cache, live, x, first);
-    let y = load_at(board, start, len, 2 * p + 1);
-    pass_slot(cache, fetched, y, second)
+    let kind = memory(board);
+    match kind {
+        2 => under_cache(board, start, len, ecb, marks, lives),
+        _ => Surveyed {
+            md: uncached_md(board, start, len),
+            records: 0,
+        },
+    }
 }
 
-// Records a point where a set came up since the last record and the next point loses one.
-fn record_points(board: &[u32], start: usize, len: usize, cache: Cache, lives: &mut [u64]) -> usize
-    requires { ⌜ (Sound (now board)) × (Lies (now board) start len) × (4 * len ≤ length (now lives)) ⌝ }
-    requires { ⌜ (at.memory (now board) ≡ 2) × (cache .sets ≡ at.cacheSets (now board)) × (Sets (cache .sets) (cache .inverse)) ⌝ }
-    ensures { λ r. ⌜ (Recorded (traceAt (now (board .entry)) start len) (now (lives .exit)) r) × (length (now (lives .exit)) ≡ length (now (lives .entry))) ⌝ }
+// The same with a cache. A point is recorded where a set came up since the last record and the next point loses one.
+fn under_cache(
+    board: &[u32],
+    start: usize,
+    len: usize,
+    ecb: &mut [u64],
+    marks: &mut [u32],
+    lives: &mut [u64],
+) -> Surveyed
+    requires { ⌜ (Sound (now board)) × (Lies (now board) start len) × (length (now ecb) ≡ 4) × (2 * len ≤ length (now marks)) × (4 * len ≤ length (now lives)) ⌝ }
+    requires { ⌜ at.memory (now board) ≡ 2 ⌝ }
+    ensures { λ r. ⌜ (r .md ≡ traceMD (traceAt (now (board .entry)) start len))
+        × (Recorded (traceAt (now (board .entry)) start len) (now (lives .exit)) (r .records))
+        × (now (ecb .exit) ≡ wordsOf (λ (s : ℕ). member (now (ecb .entry)) s || evicts (traceAt (now (board .entry)) start len) s))
+        × (length (now (marks .exit)) ≡ length (now (marks .entry))) × (length (now (lives .exit)) ≡ length (now (lives .entry))) ⌝ }
 {
-    let flags = kept_flags(board, start, len, cache);
+    let writes = mark_trace(board, start, len, cache_of(board), ecb, marks);
     let mut live = bitset::empty();
+    let mut missed: u32 = 0;
     let mut fresh = false;
     let mut m: usize = 0;
     let mut p: usize = 0;
     while p < len {
-        let next = pass_point(
-            board,
-            start,
-            len,
-            cache,
-            p,
-            live,
-            flags[2 * p],
-            flags[2 * p + 1],
-        );
-        write(lives, m, live);
-        let kept = subset(live, next);
-        let same = subset(next, live);
-        m += index(one_if(fresh & !kept));
-        fresh = fresh & kept | !same;
-        live = next;
+        let x = marks[2 * p];
+        let y = marks[2 * p + 1];
+        let lost = ends(&live, x) | ends(&live, y);
+        m = write_if(fresh & lost, lives, m, live);
+        let fetched = pass_slot(&mut live, x);
+        let read = pass_slot(&mut live, y);
+        missed += fetched.missed + read.missed;
+        let came = fetched.came | read.came;
+        fresh = fresh & !lost | came;
         p += 1;
     }
-    m
+    Surveyed {
+        md: writes + missed,
+        records: m,
+    }
 }

@@ -1,15 +1,16 @@
 // Records of four words in a lent buffer, one set of cache sets each.
 ghost use mathlib.Core.Path.{_≡_};
-ghost use mathlib.Core.Bool.{true};
-ghost use Prim.Native.Nat.{ℕ, _+_, _*_, _≤_, _<_};
+ghost use mathlib.Core.Bool.{cond};
+ghost use Prim.Native.Nat.{_+_, _*_, _≤_, _<_};
 ghost use lib.ListN.{length};
+ghost use Rattle.folds.specs.Folds.{when};
 ghost use Rattle.bitset.specs.Bits.{member};
-ghost use Rattle.useful.specs.Records.{recordAt, withRecord, Subset, mostCommon};
+ghost use Rattle.useful.specs.Records.{recordAt, withRecord, mostCommon};
 use bitset::count_both;
 use folds::larger;
 
 // Record q.
-fn read(lives: &[u64], q: usize) -> [u64; 4]
+pub fn read(lives: &[u64], q: usize) -> [u64; 4]
     requires { ⌜ 4 * q + 3 < length (now lives) ⌝ }
     ensures { λ r. ⌜ r ≡ recordAt (now (lives .entry)) q ⌝ }
 {
@@ -29,6 +30,18 @@ pub fn write(lives: &mut [u64], q: usize, set: [u64; 4])
     lives[at + 3] = set[3];
 }
 
+// The same where the test holds. The number of the next record.
+pub fn write_if(test: bool, lives: &mut [u64], q: usize, set: [u64; 4]) -> usize
+    requires { ⌜ 4 * q + 3 < length (now lives) ⌝ }
+    ensures { λ r. ⌜ (r ≡ q + when test 1) × (now (lives .exit) ≡ cond test (withRecord (now (lives .entry)) q set) (now (lives .entry))) ⌝ }
+{
+    if test {
+        write(lives, q, set);
+        return q + 1;
+    }
+    q
+}
+
 // The largest number of sets that one of the first m records has in common with `sets`; 0 for no records.
 pub fn most_common(lives: &[u64], m: usize, sets: [u64; 4]) -> u32
     requires { ⌜ 4 * m ≤ length (now lives) ⌝ }
@@ -41,12 +54,4 @@ pub fn most_common(lives: &[u64], m: usize, sets: [u64; 4]) -> u32
         q += 1;
     }
     most
-}
-
-// Whether every number of a is in b.
-pub fn subset(a: [u64; 4], b: [u64; 4]) -> bool
-    ensures { λ r. ⌜ (r ≡ true → Subset (member a) (member b)) × (Subset (member a) (member b) → r ≡ true) ⌝ }
-{
-    let lacking = a[0] & !b[0] | a[1] & !b[1] | a[2] & !b[2] | a[3] & !b[3];
-    lacking == 0
 }

@@ -5,14 +5,16 @@ use Rattle.figures_cases.proofs.print_figures.Statement.{statement}
 use Rattle.figures_cases.proofs.print_figures.Tie as tie
 
 abbrev Inv : tie.InvT-loop
-Inv board n k₀ k = Unit {0}
+Inv board n words sets k₀ k = Unit {0}
 
 abbrev μ : tie.MeasureT-loop
-μ board n k₀ k = n - k
+μ board n words sets k₀ k = n - k
 
 pub print-figures-spec : {M : Type 1} → statement M
 print-figures-spec =
     tie.close
-    (tie.spec Inv μ
-    (λ c κs. search needs) (λ c κs. search needs) (λ c. tt) (λ c. search needs) (λ c κs. search needs) (λ c κs. search needs)
-    (λ c. search needs) (λ c. search needs) (λ c. tt) (λ c. search needs))
+    (tie.spec Inv μ (λ c. tt)
+    (λ c. search needs) (λ c. search needs) (λ c. search needs) (λ c. search needs) (λ c. search needs) (λ c. search needs) (λ c. search needs)
+    (λ c. search needs) (λ c. search needs) (λ c. search needs) (λ c. search needs) (λ c. search needs) (λ c. search needs) (λ c. search needs)
+    (λ c. search needs) (λ c. search needs) (λ c. search needs) (λ c. search needs) (λ c. search needs) (λ c. search needs)
+    (λ c κs. search needs) (λ c. search needs) (λ c. search needs) (λ c. tt) (λ c. search needs))

@@ -5,10 +5,10 @@ use Rattle.figures_cases.proofs.print_row.Statement.{statement}
 use Rattle.figures_cases.proofs.print_row.Tie as tie
 
 abbrev Inv : tie.InvT-loop
-Inv table from n j₀ j = Unit {0}
+Inv words from n j₀ j = Unit {0}
 
 abbrev μ : tie.MeasureT-loop
-μ table from n j₀ j = n - j
+μ words from n j₀ j = n - j
 
 pub print-row-spec : {M : Type 1} → statement M
 print-row-spec =

@@ -1,35 +1,21 @@
--- `scratch::add_md` meets its contract: a word that is read is an MD, before the part that is written, or is not yet written.
+-- `scratch::add_md` meets its contract, row by row.
 -- Assumes nothing.
-use Prim.Native.Nat.{_+_, _-_, _*_, _%_, _≤_, _<_}
-use mathlib.Core.Path.{_≡_, ap₂}
-use native.Mathlib.Nat.{le-refl, mul-le-mul, mod-lt}
+use Prim.Native.Nat.{ℕ, _+_, _-_, _*_, _≤_, _<_}
+use mathlib.Core.Path.{_≡_, subst}
+use native.Mathlib.Nat.{le-antisymm, suc-mul}
 use native.Mathlib.Omega.{arith}
+use denote.Ref.{now}
 use borrow.Author.Needs.{needs}
-use Rattle.scratch.specs.Stored.{Stored}
-use Rattle.scratch.specs.Scratch.{withMD}
-use Rattle.scratch.proofs.Stored.{stored-none, stored-next, stored-all}
+use Rattle.scratch.specs.Scratch.{Added}
+use Rattle.scratch.proofs.Added.{row-ends, square-fits, added-none, row-addable, added-next}
 use Rattle.scratch.proofs.add_md.Statement.{statement}
 use Rattle.scratch.proofs.add_md.Tie as tie
 
 abbrev Inv-loop : tie.InvT-loop
-Inv-loop n scratch₀ md rows end w₀ scratch w = (w ≤ n * n) × Stored (withMD n scratch₀) (4 * n) w scratch₀ scratch
+Inv-loop n scratch₀ at₀ i₀ scratch at i = (i ≤ n) × (at ≡ 4 * n + i * n) × Added n i scratch₀ scratch
 
 abbrev μ-loop : tie.MeasureT-loop
-μ-loop n scratch₀ md rows end w₀ scratch w = n * n - w
-
--- in a turn, before the store
-abbrev Turn : Type 0
-Turn = tie.In-loop Inv-loop μ-loop
-
-column : (t : Turn) → let n = t .before .before .args .n in t .before .loop .w % n < n
-column t = mod-lt (t .before .loop .w) (t .before .before .pre .tasks .0)
-
-reads : (t : Turn) → let a = t .before .before .args in let l = t .before .loop in
-    withMD (a .n) (l .scratch) (l .w) ≡ withMD (a .n) (a .scratch .now) (l .w)
-reads t =
-    let n = t .before .before .args .n in
-    let l = t .before .loop in
-    ap₂ _+_ (l .inv .1 .after (4 * n + l .w) (le-refl (4 * n + l .w))) (l .inv .1 .before (3 * n + l .w % n) (omega (arith, column t)))
+μ-loop n scratch₀ at₀ i₀ scratch at i = n - i
 
 pub add-md-spec : {M : Type 1} → statement M
 add-md-spec =
@@ -38,22 +24,23 @@ add-md-spec =
     Inv-loop
     μ-loop
     (λ c. search needs)
-    (λ c. search needs)
-    (λ c. omega (arith, mul-le-mul (c .pre .tasks .1) (c .pre .tasks .1)))
-    (λ c. (omega arith, stored-none _ _ _))
-    (λ c. search needs)
-    (λ c. search needs)
-    (λ c. search needs)
-    (λ c. search needs)
-    (λ c. omega (arith, column (c .before)))
-    (λ c. omega (arith, column (c .before)))
-    (λ c. omega (arith, column (c .before .before)))
-    (λ c. let t = c .before .before in omega (arith, reads t, t .before .before .pre .fits (t .before .loop .w) (omega arith)))
+    (λ c. (omega arith, omega arith, added-none))
+    (λ c κs. let l = c .before .before .loop in row-addable (c .before .before .before .before .pre) (l .inv .2) (omega arith) (l .inv .1))
+    (λ c.
+    let at = c .before .before .before .before .before in
+    let start = at .before .before in
+    let row : at .loop .i < start .args .n = omega arith in
+    omega (arith, at .loop .inv .1, row-ends row, square-fits (start .pre .few)))
     (λ c. search needs)
     (λ c. search needs)
-    (λ c. search needs)
-    (λ c. search needs)
-    (λ c. search needs)
-    (λ c. let t = c .before .before in (omega arith, stored-next _ _ _ (t .before .loop .inv .1) (omega arith) (reads t)))
-    (λ c. search needs)
-    (λ c. let l = c .before .loop in stored-all _ _ _ (l .inv .1) (l .inv .0) (omega arith)))
+    (λ c.
+    let at = c .before .before .before .before .before in
+    let start = at .before .before in
+    let l = at .loop in
+    let row : l .i < start .args .n = omega arith in
+    (omega arith, omega (arith, l .inv .1, suc-mul (l .i) (start .args .n)), added-next (start .pre) (l .inv .2) row (l .inv .1) (c .before .before .add-row .ensures)))
+    (λ c. c .before .loop .inv .2 .size)
+    (λ c.
+    let l = c .before .loop in
+    let a = c .before .before .before .args in
+    subst (λ (m : ℕ). Added (a .n) m (now (a .scratch)) (l .scratch)) (le-antisymm (l .inv .0) (omega arith)) (l .inv .2)))

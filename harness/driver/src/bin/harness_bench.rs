@@ -80,14 +80,13 @@ fn whole(rounds: usize, what: &str, w: &[u32]) -> f64 {
     line(&format!("{what}, {} passes", passes(w)), t)
 }
 
-/// The figures of all tasks and the overheads of all pairs, as Analyse makes them: a run with a limit of one pass, less its checks. The one pass
-/// stays in the product's time.
+/// The figures of all tasks and the overheads of all pairs: Weigh makes them all for the sum of one task, at times 0. Its checks are taken off.
 fn prepare(rounds: usize, what: &str, w: &[u32]) -> f64 {
     let b = check_board(w, RULES).unwrap();
-    let one = limited(w, 1);
-    let (mut x, mut y) = (Buffers::new(), Buffers::new());
-    let check = race(rounds, || library::overhead(black_box(w), 0, 0), || ()).0;
-    let both = race(rounds, || x.product(&one), || fast::prepare_only(black_box(&b), &mut y.table));
+    let zeros = [0u32; 64];
+    let mut y = Buffers::new();
+    let check = race(rounds, || library::weigh(black_box(w), &zeros, 0), || ()).0;
+    let both = race(rounds, || library::weigh(black_box(w), &zeros, 1), || fast::prepare_only(black_box(&b), &mut y.table));
     line(what, (both.0 - check, both.1))
 }
 

@@ -15,11 +15,11 @@ sum-spec =
     (λ c κs. search needs)
     (λ c. search needs)
     (λ c κs.
-    let s = c .before .before .before .before .before in
-    room-for _ (s .pre .sound) (c .before .index .ensures .0 ∙ c .before .before .tasks .ensures .0) (most-words (s .pre .sound)))
+    let s = c .before .before .before .before .before .before in
+    room-for _ (s .pre .sound) (c .before .before .index .ensures .0 ∙ c .before .before .before .tasks .ensures .0) (most-words (s .pre .sound)))
     (λ c. search needs)
     (λ c. search needs)
     (λ c κs.
-    let s = c .before .before .before .before .before .before .before .before in
+    let s = c .before .before .before .before .before .before .before .before .before in
     (c .before .before .prepare .ensures .0, s .pre .times, omega arith))
     (λ c. search needs))

@@ -16,20 +16,20 @@ use Rattle.capi.proofs.table.fill.Statement.{statement}
 use Rattle.capi.proofs.table.fill.Tie as tie
 
 abbrev Inv : tie.InvT-loop
-Inv b n records₀ end words₀ w₀ records words w = (w ≤ end) × Within b words w × (records ≡ fillTo (recordWords b) w records₀)
+Inv b n words sets records₀ end current₀ w₀ records current w = (w ≤ end) × Within b current w × (records ≡ fillTo (recordWords b) w records₀)
 
 abbrev μ : tie.MeasureT-loop
-μ b n records₀ end words₀ w₀ records words w = end - w
+μ b n words sets records₀ end current₀ w₀ records current w = end - w
 
 holds : tie.Need-loop-holds Inv μ
 holds c = (search needs, λ inside. absurd (inside (search needs)), sym (fillTo-none _ _))
 
-ready : tie.Need-figure-of-requires Inv μ
-ready c κs = let at = c .before .before in at .before .before .before .pre .0 (at .loop .w / 13) (omega arith)
+ready : tie.Need-figure-at-requires Inv μ
+ready c κs = let at = c .before .before in (at .before .before .before .before .pre .0, omega arith)
 
 -- the words are those of the record that w is in
 words : (c : tie.Joined1 Inv μ)
-    → c .if1 .words ≡ figureWords (figureOf (now (c .before .before .before .before .before .args .board)) (c .before .before .loop .w / 13))
+    → c .if1 .current ≡ figureWords (figureOf (now (c .before .before .before .before .before .before .args .board)) (c .before .before .loop .w / 13))
 words c =
     ⊎-elim
     (λ made. made .3 ∙ made .2 .ensures ∙ ap figureWords (made .1 .ensures))
@@ -42,7 +42,7 @@ stores c = let at = c .before .before in omega (arith, ap length (at .loop .inv 
 again : tie.Need-loop-again Inv μ
 again c =
     let at = c .before .before in
-    let a = at .before .before .before .args in
+    let a = at .before .before .before .before .args in
     (search needs, within-next _ _ _ (words c), fillTo-turn (recordWords (now (a .board))) (now (a .records)) (at .loop .w) (at .loop .inv .2) (ap (λ l. getD l (at .loop .w % 13) 0) (words c)))
 
 same-length : tie.Need-same-length Inv μ
@@ -51,7 +51,7 @@ same-length c = ap length (c .before .loop .inv .2) ∙ length-fillTo _ _ _
 returns : tie.Need-returns Inv μ
 returns c =
     let at = c .before in
-    let a = at .before .before .before .args in
+    let a = at .before .before .before .before .args in
     at-end (λ w. fillTo (recordWords (now (a .board))) w (now (a .records))) (at .loop .inv .2) (omega arith) (omega arith)
 
 pub fill-spec : {M : Type 1} → statement M

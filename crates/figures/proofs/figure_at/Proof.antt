@@ -1,0 +1,44 @@
+-- `figures::figure_at` meets its contract, field by field.
+use mathlib.Core.Path.{_∙_}
+use borrow.Author.Needs.{needs}
+use denote.Ref.{now}
+use Rattle.figures.specs.Ready.{Ready}
+use Rattle.figures.specs.Figures.{figureOf}
+use Rattle.figures.proofs.figure_at.Statement.{statement}
+use Rattle.figures.proofs.figure_at.Tie as tie
+
+-- the task is there
+abbrev ready : (s : tie.Start) → Ready (now (s .args .board)) (s .args .k)
+ready s = s .pre .0 .ready (s .args .k) (s .pre .1)
+
+returns : tie.Need-returns
+unfolding figureOf
+returns c =
+    let start = c .before .before .before .before .before .before .before .before .before in
+    let held = start .pre .0 .held in
+    λ i. record {
+      core = c .before .before .before .before .before .before .core .ensures .0 i;
+      period = c .before .before .before .before .before .period .ensures .0 i;
+      deadline = c .before .before .before .before .deadline .ensures .0 i;
+      pd = held .pd (start .args .k) (start .pre .1) i;
+      md = held .md (start .args .k) (start .pre .1) i;
+      ecb = (c .read .ensures ∙ held .ecb (start .args .k) (start .pre .1)) i;
+    }
+
+pub figure-at-spec : {M : Type 1} → statement M
+figure-at-spec =
+    tie.close
+    (tie.spec
+    (λ c κs. let r = ready (c .before .before) in (r .sound, r .task))
+    (λ c κs. let r = ready (c .before .before .before) in (r .sound, r .task))
+    (λ c κs. let r = ready (c .before .before .before .before) in (r .sound, r .task))
+    (λ c. search needs)
+    (λ c. search needs)
+    (λ c. search needs)
+    (λ c. search needs)
+    (λ c. search needs)
+    (λ c. search needs)
+    (λ c. search needs)
+    (λ c. search needs)
+    (λ c κs. search needs)
+    returns)

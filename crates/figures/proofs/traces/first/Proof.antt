@@ -1,0 +1,15 @@
+-- `figures::traces::first` meets its contract.
+use native.Mathlib.Omega.{arith}
+use borrow.Author.Needs.{needs}
+use Rattle.figures.proofs.Starts.{at-begin}
+use Rattle.figures.proofs.traces.first.Statement.{statement}
+use Rattle.figures.proofs.traces.first.Tie as tie
+
+returns : tie.Need-returns
+returns c = at-begin _ _ (omega arith)
+
+pub first-spec : {M : Type 1} → statement M
+first-spec =
+    tie.close
+    (tie.spec (λ c κs. search needs) (λ c κs. search needs) (λ c κs. search needs) (λ c κs. search needs) (λ c. search needs) (λ c. search needs)
+    (λ c. search needs) returns)

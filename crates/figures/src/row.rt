@@ -1,0 +1,59 @@
+// A row of overheads: word j has γ(i, j) of the task i at hand.
+use board::fields;
+use folds::larger;
+use useful::records::most_common;
+use useful::records::read;
+ghost use mathlib.Core.Path.{_≡_};
+ghost use Prim.Native.Nat.{ℕ, _+_, _*_, _<_, _≤_};
+ghost use lib.ListN.{length};
+ghost use Rattle.useful.specs.Records.{mostCommon};
+ghost use Rattle.figures.specs.Ready.{Ready};
+ghost use Rattle.figures.specs.Overhead.{evictedBy};
+ghost use Rattle.figures.specs.Rows.{Evicted, onCoreOf, raised, Copied};
+
+// Raises the row by the m records of a trace of task i, for each higher task j on its core. A trace with no records raises nothing.
+pub fn raise(
+    board: &[u32],
+    i: usize,
+    evicted: &[u64; 256],
+    lives: &[u64],
+    m: usize,
+    row: &mut [u32; 64],
+)
+    requires { ⌜ (Ready (now board) i) × (Evicted (now board) i (now evicted)) × (4 * m ≤ length (now lives)) ⌝ }
+    ensures { λ _. ⌜ now (row .exit) ≡ raised (onCoreOf (now (board .entry)) i (λ (j : ℕ). mostCommon (now (lives .entry)) m (evictedBy (now (board .entry)) j))) i (now (row .entry)) ⌝ }
+{
+    if m == 0 {
+        return;
+    }
+    let mut j: usize = 0;
+    while j < i {
+        row[j] = larger(row[j], common(board, i, j, evicted, lives, m));
+        j += 1;
+    }
+}
+
+// The most sets that a record of a trace of task i has in common with those evicted by task j; none from another core.
+fn common(board: &[u32], i: usize, j: usize, evicted: &[u64; 256], lives: &[u64], m: usize) -> u32
+    requires { ⌜ (Ready (now board) i) × (j < i) × (Evicted (now board) i (now evicted)) × (4 * m ≤ length (now lives)) ⌝ }
+    ensures { λ r. ⌜ r ≡ onCoreOf (now (board .entry)) i (λ (k : ℕ). mostCommon (now (lives .entry)) m (evictedBy (now (board .entry)) k)) j ⌝ }
+{
+    let x = fields::core(board, i);
+    let y = fields::core(board, j);
+    if x != y {
+        return 0;
+    }
+    most_common(lives, m, read(evicted, j))
+}
+
+// Copies the first n words of the row to the table, from word `from` on.
+pub fn copy(row: &[u32; 64], table: &mut [u32], from: usize, n: usize)
+    requires { ⌜ (n ≤ 64) × (from + n ≤ length (now table)) ⌝ }
+    ensures { λ _. ⌜ (Copied (now (row .entry)) from n (now (table .entry)) (now (table .exit))) × (length (now (table .exit)) ≡ length (now (table .entry))) ⌝ }
+{
+    let mut j: usize = 0;
+    while j < n {
+        table[from + j] = row[j];
+        j += 1;
+    }
+}

@@ -1,0 +1,183 @@
+// One walk over all tasks and their traces, for PD, MD, ECB and the overheads.
+use super::row;
+use super::traces;
+use super::traces::Cursor;
+use board::fields;
+use folds::index;
+use folds::larger;
+use trace::demand;
+use useful::records::read;
+use useful::records::write;
+ghost use mathlib.Core.Path.{_≡_};
+ghost use mathlib.Core.Bool.{true, _||_};
+ghost use Prim.Native.Nat.{ℕ, _+_, _*_, _<_, _≤_};
+ghost use lib.ListN.{length};
+ghost use Rattle.bitset.specs.Bits.{member, wordsOf};
+ghost use Rattle.board.specs.Layout.{tasks};
+ghost use Rattle.board.specs.Sound.{Sound};
+ghost use Rattle.trace.specs.Traces.{traceOf, tracePD, traceMD, evicts, mostUseful};
+ghost use Rattle.figures.specs.Ready.{Ready};
+ghost use Rattle.figures.specs.Starts.{Starts, At};
+ghost use Rattle.figures.specs.Figures.{taskPD, taskMD, evicting};
+ghost use Rattle.figures.specs.Overhead.{evictedBy, reloads, γ};
+ghost use Rattle.figures.specs.Rows.{Evicting, Evicted, Cores, onCoreOf, raised};
+ghost use Rattle.figures.specs.Survey.{Held, Overheads, Written};
+
+// The figures of the tasks below count, and with `rows` the overheads of each with every task.
+pub fn survey(board: &[u32], count: usize, rows: bool, words: &mut [u32], sets: &mut [u64; 256])
+    requires { ⌜ (Sound (now board)) × (count ≤ tasks (now board)) × (4 * tasks (now board) ≤ length (now words))
+        × (rows ≡ true → tasks (now board) * tasks (now board) + 4 * tasks (now board) ≤ length (now words)) ⌝ }
+    ensures { λ _. ⌜ (Held (now (board .entry)) (tasks (now (board .entry))) count (now (words .exit)) (now (sets .exit)))
+        × (rows ≡ true → Overheads (now (board .entry)) (tasks (now (board .entry))) count (now (words .exit)))
+        × (length (now (words .exit)) ≡ length (now (words .entry))) ⌝ }
+{
+    let n = index(fields::tasks(board));
+    let mut cores = [0u64; 36];
+    let mut evicted = [0u64; 256];
+    let mut row = [0u32; 64];
+    let mut marks = [0u32; 2048];
+    let mut lives = [0u64; 4096];
+    let mut at = traces::first(board);
+    let mut i: usize = 0;
+    while i < count {
+        let task = survey_task(
+            board,
+            i,
+            at,
+            rows,
+            &evicted,
+            &mut row,
+            &mut marks,
+            &mut lives,
+        );
+        let ecb = task.ecb;
+        keep(board, i, ecb, sets, &mut cores, &mut evicted);
+        store(words, n, i, task.pd, task.md, rows, &row);
+        at = task.next;
+        i += 1;
+    }
+}
+
+// γ(i, j).
+pub fn overhead(board: &[u32], i: usize, j: usize) -> u32
+    requires { ⌜ (Sound (now board)) × (i < tasks (now board)) × (j < tasks (now board)) ⌝ }
+    ensures { λ r. ⌜ r ≡ γ (now (board .entry)) i j ⌝ }
+{
+    let n = index(fields::tasks(board));
+    let mut words = [0u32; 4352];
+    let mut sets = [0u64; 256];
+    survey(board, i + 1, true, &mut words, &mut sets);
+    words[4 * n + (i * n + j)]
+}
+
+// The figures of one task, and the first trace of the next.
+struct Task {
+    pd: u32,
+    md: u32,
+    ecb: [u64; 4],
+    next: Cursor,
+}
+
+// The figures of task i, whose first trace is `first`. With `rows` the row is raised by what the task adds to γ(i, j) of each higher task j on its core.
+fn survey_task(
+    board: &[u32],
+    i: usize,
+    first: Cursor,
+    rows: bool,
+    evicted: &[u64; 256],
+    row: &mut [u32; 64],
+    marks: &mut [u32; 2048],
+    lives: &mut [u64; 4096],
+) -> Task
+    requires { ⌜ (Ready (now board) i) × (At (now board) i 0 (first .trace) (first .start)) × (Evicted (now board) i (now evicted)) ⌝ }
+    ensures { λ r. ⌜ (r .pd ≡ taskPD (now (board .entry)) i) × (r .md ≡ taskMD (now (board .entry)) i) × (r .ecb ≡ wordsOf (evicting (now (board .entry)) i))
+        × (At (now (board .entry)) (i + 1) 0 (r .next .trace) (r .next .start))
+        × (rows ≡ true → now (row .exit) ≡ raised (onCoreOf (now (board .entry)) i (λ (j : ℕ). reloads (now (board .entry)) j i)) i (now (row .entry))) ⌝ }
+{
+    let count = fields::trace_count(board, i);
+    let mut at = first;
+    let mut pd: u32 = 0;
+    let mut md: u32 = 0;
+    let mut ecb = bitset::empty();
+    let mut r: u32 = 0;
+    while r < count {
+        let found = survey_trace(board, i, at, rows, evicted, &mut ecb, row, marks, lives);
+        pd = larger(pd, found.pd);
+        md = larger(md, found.md);
+        at = traces::next(board, at);
+        r += 1;
+    }
+    Task {
+        pd,
+        md,
+        ecb,
+        next: at,
+    }
+}
+
+// PD and MD of one trace.
+struct Demand {
+    pd: u32,
+    md: u32,
+}
+
+// PD and MD of one trace of task i. Its evicting cache blocks are added to `ecb` and, with `rows`, the row is raised by its useful sets.
+fn survey_trace(
+    board: &[u32],
+    i: usize,
+    at: Cursor,
+    rows: bool,
+    evicted: &[u64; 256],
+    ecb: &mut [u64; 4],
+    row: &mut [u32; 64],
+    marks: &mut [u32; 2048],
+    lives: &mut [u64; 4096],
+) -> Demand
+    requires { ⌜ (Ready (now board) i) × (Starts (now board) (at .trace) (at .start)) × (Evicted (now board) i (now evicted)) ⌝ }
+    ensures { λ r. ⌜ (r .pd ≡ tracePD (traceOf (now (board .entry)) (at .trace))) × (r .md ≡ traceMD (traceOf (now (board .entry)) (at .trace)))
+        × (now (ecb .exit) ≡ wordsOf (λ (s : ℕ). member (now (ecb .entry)) s || evicts (traceOf (now (board .entry)) (at .trace)) s))
+        × (rows ≡ true → now (row .exit)
+        ≡ raised (onCoreOf (now (board .entry)) i (λ (j : ℕ). mostUseful (traceOf (now (board .entry)) (at .trace)) (evictedBy (now (board .entry)) j))) i (now (row .entry))) ⌝ }
+{
+    let len = index(fields::trace_length(board, at.trace));
+    let pd = demand::pd(board, at.start, len);
+    let found = useful::survey(board, at.start, len, ecb, marks, lives);
+    let demand = Demand { pd, md: found.md };
+    if rows {
+        row::raise(board, i, evicted, lives, found.records, row);
+    }
+    demand
+}
+
+// Keeps the ECB of task i as record i of `sets`, and joined with those before it on its core as record i of `evicted`.
+fn keep(
+    board: &[u32],
+    i: usize,
+    ecb: [u64; 4],
+    sets: &mut [u64; 256],
+    cores: &mut [u64; 36],
+    evicted: &mut [u64; 256],
+)
+    requires { ⌜ (Ready (now board) i) × (ecb ≡ wordsOf (evicting (now board) i)) × (Evicting (now board) i (now sets))
+        × (Cores (now board) i (now cores)) × (Evicted (now board) i (now evicted)) ⌝ }
+    ensures { λ _. ⌜ (Evicting (now (board .entry)) (i + 1) (now (sets .exit))) × (Cores (now (board .entry)) (i + 1) (now (cores .exit)))
+        × (Evicted (now (board .entry)) (i + 1) (now (evicted .exit))) ⌝ }
+{
+    let x = index(fields::core(board, i));
+    let joined = bitset::union(read(cores, x), ecb);
+    write(cores, x, joined);
+    write(evicted, i, joined);
+    write(sets, i, ecb);
+}
+
+// Writes PD and MD of task i to their words and, with `rows`, its row.
+fn store(words: &mut [u32], n: usize, i: usize, pd: u32, md: u32, rows: bool, row: &[u32; 64])
+    requires { ⌜ (i < n) × (n ≤ 64) × (4 * n ≤ length (now words)) × (rows ≡ true → n * n + 4 * n ≤ length (now words)) ⌝ }
+    ensures { λ _. ⌜ (Written n i pd md rows (now (row .entry)) (now (words .entry)) (now (words .exit))) × (length (now (words .exit)) ≡ length (now (words .entry))) ⌝ }
+{
+    words[2 * n + i] = pd;
+    words[3 * n + i] = md;
+    if rows {
+        row::copy(row, words, 4 * n + i * n, n);
+    }
+}

@@ -1,0 +1,53 @@
+-- MD added to the rows, one after the other.
+-- Assumes nothing.
+use Prim.Native.Nat.{ℕ, _+_, _*_, _≤_, _<_}
+use mathlib.Core.List.{List}
+use mathlib.Core.Path.{_≡_, refl, sym, ap, ap₂, _∙_}
+use native.Mathlib.Nat.{suc-mul, mul-le-mul, mul-le-mul-right}
+use native.Mathlib.Omega.{arith}
+use lib.ListN.{getD}
+use Rattle.folds.proofs.Numbers.{below-suc}
+use Rattle.scratch.specs.Stored.{Stored}
+use Rattle.scratch.specs.Scratch.{RowAddable, withMD, Addable, Added}
+
+-- row i of n ends where n rows do, or before
+pub row-ends : {i n : ℕ} → i < n → i * n + n ≤ n * n
+row-ends {i} {n} row = omega (arith, suc-mul i n, mul-le-mul-right n row)
+
+pub square-fits : {n : ℕ} → n ≤ 64 → n * n ≤ 4096
+square-fits few = mul-le-mul few few
+
+pub added-none : {n : ℕ} {w : List ℕ} → Added n 0 w w
+added-none = record { size = refl; rows = λ i k row column. absurd (omega arith); before = λ p h. refl; after = λ p h. refl }
+
+module _ {n i at : ℕ} {w w₁ : List ℕ} (able : Addable n w) (so-far : Added n i w w₁) (row : i < n) (place : at ≡ 4 * n + i * n) where
+  -- row i is as it was
+  same : (k : ℕ) → k < n → withMD n at w₁ k ≡ withMD n at w k
+  same k column = ap₂ _+_ (so-far .after (at + k) (omega arith)) (so-far .before (3 * n + k) (omega arith))
+
+  moved : (k : ℕ) → withMD n at w k ≡ withMD n (4 * n + i * n) w k
+  moved k = ap (λ (a : ℕ). withMD n a w k) place
+
+  pub row-addable : RowAddable n at w₁
+  row-addable =
+      record {
+        few = able .few;
+        behind = omega arith;
+        words = omega (arith, row-ends row, able .words, so-far .size);
+        fits = λ k column. omega (arith, same k column, moved k, able .fits i k row column);
+      }
+
+  pub added-next : {w₂ : List ℕ} → Stored (withMD n at w₁) at n w₁ w₂ → Added n (i + 1) w w₂
+  added-next {w₂} stored =
+      record {
+        size = stored .size ∙ so-far .size;
+        rows = λ j k h.
+            below-suc (λ r. k < n → getD w₂ (4 * n + r * n + k) 0 ≡ withMD n (4 * n + r * n) w k) i
+            (λ r l column.
+            let low : 4 * n + r * n + k < at = omega (arith, suc-mul r n, mul-le-mul-right n l) in
+            stored .before (4 * n + r * n + k) low ∙ so-far .rows r k l column)
+            (λ column. ap (λ (a : ℕ). getD w₂ (a + k) 0) (sym place) ∙ stored .part k column ∙ same k column ∙ moved k)
+            j (omega arith);
+        before = λ p h. stored .before p (omega arith) ∙ so-far .before p h;
+        after = λ p h. stored .after p (omega (arith, suc-mul i n)) ∙ so-far .after p (omega (arith, suc-mul i n));
+      }

@@ -1,0 +1,33 @@
+-- `useful::survey` meets its contract: without a cache nothing is evicted or useful.
+use borrow.Author.Needs.{needs}
+use mathlib.Core.Path.{_≡_, refl}
+use native.Mathlib.Omega.{arith}
+use denote.Ref.{now}
+use Rattle.board.specs.Layout.{memory}
+use Rattle.trace.specs.Traces.{evicts}
+use Rattle.trace.specs.Places.{traceAt}
+use Rattle.trace.proofs.Sets.{evicts-plain, useful-plain}
+use Rattle.useful.proofs.Evicting.{join-none}
+use Rattle.useful.proofs.Recording.{recorded-none}
+use Rattle.useful.proofs.survey.Statement.{statement}
+use Rattle.useful.proofs.survey.Tie as tie
+
+plain : tie.Need-returns-2
+plain c =
+    let known = c .before .before .before in
+    let top = known .before .before .before .before in
+    let a = top .args in
+    let t = traceAt (now (a .board)) (a .start) (a .len) in
+    let uncached : memory (now (a .board)) ≡ 2 → ⊥ = λ e. omega arith in (
+      c .uncached-md .ensures,
+      recorded-none t (now (a .lives)) (useful-plain t uncached),
+      join-none (now (a .ecb)) (evicts t) (top .pre .2) (known .before .before .slice-known .given) (evicts-plain t uncached),
+      refl,
+      refl,
+    )
+
+pub survey-spec : {M : Type 1} → statement M
+survey-spec =
+    tie.close
+    (tie.spec (λ c κs. search needs) (λ c κs. search needs) (λ c κs. search needs) (λ c. search needs) (λ c. search needs) (λ c. search needs)
+    (λ c. search needs) plain)

@@ -1,0 +1,58 @@
+// The scan of a trace forwards, over its marks: the useful sets from slot to slot.
+use folds::index;
+use folds::one_if;
+ghost use mathlib.Core.Path.{_≡_};
+ghost use mathlib.Core.Bool.{false};
+ghost use Prim.Native.Nat.{_≤_};
+ghost use lib.ListN.{length};
+ghost use Rattle.folds.specs.Folds.{when};
+ghost use Rattle.bitset.specs.Bits.{member, wordsOf};
+ghost use Rattle.useful.specs.Records.{Subset};
+ghost use Rattle.useful.specs.Marks.{markEnds, markMisses, passed};
+
+// What a slot did: 1 where its load missed, and whether a set came up.
+pub struct Passed {
+    pub missed: u32,
+    pub came: bool,
+}
+
+// Whether a slot of this mark ends the use of its set: the set is useful, and the load is not kept.
+pub fn ends(live: &[u64], mark: u32) -> bool
+    requires { ⌜ (mark ≤ 512) × (length (now live) ≡ 4) ⌝ }
+    ensures { λ r. ⌜ r ≡ markEnds mark (member (now (live .entry))) ⌝ }
+{
+    if mark % 2 == 0 {
+        return false;
+    }
+    let s = index((mark - 1) / 2);
+    let w = live[s / 64];
+    (w >> (s % 64)) % 2 == 1
+}
+
+// Passes a slot: `live` has the useful sets before it, and then those after it.
+pub fn pass_slot(live: &mut [u64], mark: u32) -> Passed
+    requires { ⌜ (mark ≤ 512) × (length (now live) ≡ 4) ⌝ }
+    ensures { λ r. ⌜ (now (live .exit) ≡ wordsOf (passed mark (member (now (live .entry))))) × (r .missed ≡ when (markMisses mark (member (now (live .entry)))) 1)
+        × (r .came ≡ false → Subset (member (now (live .exit))) (member (now (live .entry)))) × (r .missed ≤ 1) ⌝ }
+{
+    if mark == 0 {
+        return Passed {
+            missed: 0,
+            came: false,
+        };
+    }
+    let s = index((mark - 1) / 2);
+    let i = s / 64;
+    let w = live[i];
+    let was = (w >> (s % 64)) % 2 == 1;
+    let missed = one_if(!was);
+    if mark % 2 == 0 {
+        live[i] = (1u64 << (s % 64)) | w;
+        return Passed { missed, came: !was };
+    }
+    live[i] = !(1u64 << (s % 64)) & w;
+    Passed {
+        missed,
+        came: false,
+    }
+}
