@@ -3,6 +3,7 @@
 use capi::zuzgravel_analyse;
 use folds::wide;
 use libc::STDOUT_FILENO;
+use lines::print::print_field;
 use lines::read_line;
 ghost use Prim.Native.Nat.{_<_};
 ghost use lib.ListN.{length};
@@ -54,9 +55,4 @@ fn print_words(words: &[u32]) {
         print_field(wide(words[k]));
         k += 1;
     }
-}
-
-fn print_field(x: u64) {
-    io::write_all(STDOUT_FILENO, b" ");
-    io::print_decimal(STDOUT_FILENO, x);
 }

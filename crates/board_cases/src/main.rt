@@ -1,6 +1,7 @@
 // Reads boards from standard input, one to a line, and prints the verdict of `board::check` on each: `ok`, or `bad` with number and place.
 use board::Verdict;
 use libc::STDOUT_FILENO;
+use lines::print::print_refusal;
 use lines::read_line;
 ghost use Prim.Native.Nat.{_<_};
 ghost use lib.ListN.{length};
@@ -36,15 +37,7 @@ fn answer(words: &[u32]) {
             io::write_all(STDOUT_FILENO, b"ok\n");
         }
         Verdict::Refused(number, place) => {
-            io::write_all(STDOUT_FILENO, b"bad");
-            print_field(number as u64);
-            print_field(place as u64);
-            io::write_all(STDOUT_FILENO, b"\n");
+            print_refusal(number, place);
         }
     }
-}
-
-fn print_field(x: u64) {
-    io::write_all(STDOUT_FILENO, b" ");
-    io::print_decimal(STDOUT_FILENO, x);
 }

@@ -7,6 +7,8 @@ use figures::survey::survey;
 use folds::index;
 use folds::wide;
 use libc::STDOUT_FILENO;
+use lines::print::print_field;
+use lines::print::print_refusal;
 use lines::read_line;
 ghost use mathlib.Core.Path.{_≡_};
 ghost use Prim.Native.Nat.{_+_, _<_, _≤_};
@@ -45,10 +47,7 @@ fn answer(words: &[u32]) {
             print_board(words);
         }
         Verdict::Refused(number, place) => {
-            io::write_all(STDOUT_FILENO, b"bad");
-            print_field(number as u64);
-            print_field(place as u64);
-            end_line();
+            print_refusal(number, place);
         }
     }
 }
@@ -127,11 +126,6 @@ fn print_last(board: &[u32])
         j += 1;
     }
     end_line();
-}
-
-fn print_field(x: u64) {
-    io::write_all(STDOUT_FILENO, b" ");
-    io::print_decimal(STDOUT_FILENO, x);
 }
 
 fn end_line() {

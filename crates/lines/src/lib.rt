@@ -1,4 +1,6 @@
 // Boards as text, one to a line: the words in decimal, and x*n for n words x.
+pub mod print;
+
 use folds::index;
 ghost use Prim.Native.Nat.{_≤_, _<_};
 ghost use mathlib.Core.Path.{_≡_};

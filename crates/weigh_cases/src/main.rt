@@ -4,6 +4,7 @@ use analysis::Outcome;
 use analysis::weigh;
 use folds::index;
 use libc::STDOUT_FILENO;
+use lines::print::print_refusal;
 use lines::read_line;
 ghost use Prim.Native.Nat.{_<_, _≤_};
 ghost use lib.ListN.{length};
@@ -65,14 +66,11 @@ fn answer(board: &[u32], words: &[u32]) {
         match weigh(board, &words[1..], index(words[0])) {
             Outcome::Value(sum) => {
                 io::print_decimal(STDOUT_FILENO, sum);
+                io::write_all(STDOUT_FILENO, b"\n");
             }
             Outcome::Refused(number, place) => {
-                io::write_all(STDOUT_FILENO, b"bad ");
-                io::print_decimal(STDOUT_FILENO, number as u64);
-                io::write_all(STDOUT_FILENO, b" ");
-                io::print_decimal(STDOUT_FILENO, place as u64);
+                print_refusal(number, place);
             }
         }
-        io::write_all(STDOUT_FILENO, b"\n");
     }
 }

@@ -17,5 +17,4 @@ passed c κs =
 pub answer-spec : {M : Type 1} → statement M
 answer-spec =
     tie.close
-    (tie.spec (λ c κs. search needs) (λ c. search needs) passed (λ c. search needs) (λ c. search needs) (λ c κs. search needs) (λ c κs. search needs)
-    (λ c κs. search needs) (λ c κs. search needs) (λ c. search needs) (λ c. search needs))
+    (tie.spec (λ c κs. search needs) (λ c. search needs) passed (λ c. search needs) (λ c κs. search needs) (λ c. search needs) (λ c. search needs))

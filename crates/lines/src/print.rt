@@ -1,0 +1,16 @@
+// Answers on standard output.
+use libc::STDOUT_FILENO;
+
+// A space, and the number.
+pub fn print_field(x: u64) {
+    io::write_all(STDOUT_FILENO, b" ");
+    io::print_decimal(STDOUT_FILENO, x);
+}
+
+// The line of a refusal: `bad`, its number and its place.
+pub fn print_refusal(number: usize, place: usize) {
+    io::write_all(STDOUT_FILENO, b"bad");
+    print_field(number as u64);
+    print_field(place as u64);
+    io::write_all(STDOUT_FILENO, b"\n");
+}
