@@ -16,8 +16,8 @@ use Rattle.sums.specs.Sums.{memoryDemand, ownAccesses, carryIn, coreAccesses, l
 use Rattle.passes.specs.Passes.{pass, after, unchanged, changes, passesBy, settledBy, firstLate}
 use Rattle.analysis.specs.Refusals.{figuresRefusal, overheadRefusal, analyseRefusal}
 use Rattle.analysis.specs.Answers.{figuresAnswer, overheadAnswer, settledAnswer, analyseAnswer, timesAfter}
-use Rattle.page.specs.Input.{wordsIn, inputRefusal}
-use Rattle.page.specs.Text.{digitsOf, decimal, line}
+use Rattle.input.specs.Input.{wordsIn, inputRefusal}
+use Rattle.text.specs.Text.{digitsOf, decimal, line}
 use Rattle.page.specs.Page.{taskLines, answerPage, boardPage, pageOf}
 use Rattle.analysis.specs.declared.Answer.{Answer}
 use Rattle.analysis.specs.declared.Answer.the-variants.{Times, Late, Spent}

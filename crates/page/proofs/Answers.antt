@@ -6,11 +6,11 @@ use mathlib.Core.Path.{_≡_, sym, ap, ap₂, subst, _∙_}
 use Rattle.board.specs.Layout.{tasks, passLimit}
 use Rattle.analysis.specs.declared.Answer.{Answer}
 use Rattle.analysis.specs.declared.Answer.the-variants.{Times, Late, Spent, Refused}
-use Rattle.page.specs.Text.{decimal, line, okText, lateText, spentText, badText}
-use Rattle.page.specs.Buffer.{Put}
+use Rattle.text.specs.Text.{decimal, line, okText, lateText, spentText, badText}
+use Rattle.text.specs.Buffer.{Put}
 use Rattle.page.specs.Page.{taskLines, answerPage}
 use Rattle.page.specs.Printable.{Printable}
-use Rattle.page.proofs.Buffer.{put-same, put-then}
+use Rattle.text.proofs.Buffer.{put-same, put-then}
 
 -- what it takes to print r, where r is s
 pub printable-as : (b R : List ℕ) {r s : Answer} → r ≡ s → Printable b R r → Printable b R s

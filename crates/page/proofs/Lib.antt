@@ -1,7 +1,4 @@
--- The laws of the input and of the page.
-pub mod Words
-pub mod Buffer
-pub mod Digits
+-- The laws of the page.
 pub mod Lines
 pub mod Answers
 pub mod Pages

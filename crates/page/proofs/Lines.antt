@@ -5,10 +5,10 @@ use mathlib.Core.List.{List, [], _∷_, _++_, append-assoc}
 use mathlib.Core.Path.{_≡_}
 use native.Mathlib.Numerals.{add-one}
 use lib.ListN.{length}
-use Rattle.page.specs.Text.{line}
-use Rattle.page.specs.Buffer.{Put}
+use Rattle.text.specs.Text.{line}
+use Rattle.text.specs.Buffer.{Put}
 use Rattle.page.specs.Page.{taskLine, taskLines}
-use Rattle.page.proofs.Buffer.{put-none, put-same, put-then}
+use Rattle.text.proofs.Buffer.{put-none, put-same, put-then}
 
 line-more : (field next : List ℕ) (rest : List (List ℕ)) → (field ++ (32 ∷ [])) ++ line (next ∷ rest) ≡ line (field ∷ next ∷ rest)
 unfolding line

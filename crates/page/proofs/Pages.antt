@@ -18,7 +18,7 @@ use Rattle.analysis.specs.Refusals.{timesRow, scratchRow, tableRow, analyseRefu
 use Rattle.analysis.specs.Answers.{answerBy, analyseAnswer, timesAfter}
 use Rattle.analysis.specs.declared.Answer.{Answer}
 use Rattle.analysis.specs.declared.Answer.the-variants.{Times, Late, Spent, Refused}
-use Rattle.page.specs.Input.{wordsIn, inputRefusal}
+use Rattle.input.specs.Input.{wordsIn, inputRefusal}
 use Rattle.page.specs.Page.{lentTimes, lentScratch, lentRecords, badLine, answerPage, boardPage, pageBy, pageOf}
 use Rattle.page.specs.Printable.{Printable}
 use Rattle.page.proofs.Answers.{printable-as}

@@ -2,19 +2,19 @@
 ghost use mathlib.Core.List.{[], _∷_};
 ghost use Prim.Native.Nat.{_+_, _*_, _≤_, _<_};
 ghost use lib.ListN.{length};
-ghost use Rattle.page.specs.Text.{decimal, line};
-ghost use Rattle.page.specs.Buffer.{Put};
+ghost use Rattle.text.specs.Text.{decimal, line};
+ghost use Rattle.text.specs.Buffer.{Put};
 ghost use Rattle.page.specs.Page.{taskLine, taskLines, answerPage};
 ghost use Rattle.page.specs.Printable.{Printable};
 ghost use Rattle.board.specs.Layout.{tasks};
 ghost use Rattle.board.specs.Sound.{Sound};
 ghost use Rattle.analysis.specs.declared.Answer.the-variants.{Times};
-use crate::text::put_field;
-use crate::text::put_number;
-use crate::text::put_word;
 use analysis::Answer;
 use folds::index;
 use folds::wide;
+use text::put_field;
+use text::put_number;
+use text::put_word;
 
 // Puts a line of a text and one number at the start: at most 22 bytes after the text.
 fn number_line(out: &mut [u8], text: &[u8], x: u64) -> usize

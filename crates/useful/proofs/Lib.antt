@@ -1,7 +1,5 @@
 -- The laws that join the records and the code's scans to the definitions.
 pub mod Writes
-pub mod Evicting
-pub mod Marking
 pub mod Passing
 pub mod Recording
 pub mod Points

@@ -23,8 +23,8 @@ use Rattle.trace.specs.Slots.{loadAt, slotSet, loadsInto, lastSlot, usefulBefor
 use Rattle.trace.proofs.Scans.{into-none, firstSlot-end, firstSlot-own, useful-start, useful-next}
 use Rattle.trace.proofs.Sets.{useful-slot}
 use Rattle.useful.specs.Records.{Subset}
-use Rattle.useful.specs.Marks.{markOf, Marked, markSet, markKept, markEnds, markMisses, passed}
-use Rattle.useful.proofs.Marking.{mark-none, mark-load}
+use Rattle.marks.specs.Marks.{markOf, Marked, markSet, markKept, markEnds, markMisses, passed}
+use Rattle.marks.proofs.Marking.{mark-none, mark-load}
 
 -- ---- what the code does at a slot
 

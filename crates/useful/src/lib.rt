@@ -1,6 +1,5 @@
 // The memory demand, the evicting cache blocks and the useful sets of a trace, in two scans: backwards over its instructions, and forwards over
 // the marks that the first scan made of its loads.
-mod marks;
 pub mod records;
 mod slots;
 

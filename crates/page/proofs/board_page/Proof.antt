@@ -1,7 +1,7 @@
 -- `page::board_page` meets its contract.
 use borrow.Author.Needs.{needs}
 use native.Mathlib.Omega.{arith}
-use Rattle.page.proofs.Buffer.{put-same}
+use Rattle.text.proofs.Buffer.{put-same}
 use Rattle.page.proofs.Pages.{analyse-printable, boardPage-is}
 use Rattle.page.proofs.board_page.Statement.{statement}
 use Rattle.page.proofs.board_page.Tie as tie

@@ -2,7 +2,7 @@
 use mathlib.Core.Path.{sym, _∙_}
 use borrow.Author.Needs.{needs}
 use native.Mathlib.Omega.{arith}
-use Rattle.page.proofs.Buffer.{put-same}
+use Rattle.text.proofs.Buffer.{put-same}
 use Rattle.page.proofs.Pages.{pageOf-refused}
 use Rattle.page.proofs.input_page.Statement.{statement}
 use Rattle.page.proofs.input_page.Tie as tie

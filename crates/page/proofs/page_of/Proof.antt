@@ -1,6 +1,6 @@
 -- `page::page_of` meets its contract.
 use borrow.Author.Needs.{needs}
-use Rattle.page.proofs.Buffer.{put-take, put-drop, put-counts}
+use Rattle.text.proofs.Buffer.{put-take, put-drop, put-counts}
 use Rattle.page.proofs.page_of.Statement.{statement}
 use Rattle.page.proofs.page_of.Tie as tie
 

@@ -1,8 +1,8 @@
 -- `page::words_page` meets its contract: an input that row 15 passes has at most 16,384 words.
 use borrow.Author.Needs.{needs}
 use native.Mathlib.Omega.{arith}
-use Rattle.page.proofs.Buffer.{put-same}
-use Rattle.page.proofs.Words.{inputRefusal-passed}
+use Rattle.text.proofs.Buffer.{put-same}
+use Rattle.input.proofs.Words.{inputRefusal-passed}
 use Rattle.page.proofs.Pages.{pageOf-passed}
 use Rattle.page.proofs.words_page.Statement.{statement}
 use Rattle.page.proofs.words_page.Tie as tie

@@ -7,7 +7,7 @@ use Rattle.board.specs.Layout.{memory}
 use Rattle.trace.specs.Traces.{evicts}
 use Rattle.trace.specs.Places.{traceAt}
 use Rattle.trace.proofs.Sets.{evicts-plain, useful-plain}
-use Rattle.useful.proofs.Evicting.{join-none}
+use Rattle.marks.proofs.Evicting.{join-none}
 use Rattle.useful.proofs.Recording.{recorded-none}
 use Rattle.useful.proofs.survey.Statement.{statement}
 use Rattle.useful.proofs.survey.Tie as tie

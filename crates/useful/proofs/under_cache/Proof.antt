@@ -18,8 +18,8 @@ use Rattle.trace.specs.Places.{traceAt}
 use Rattle.trace.specs.Slots.{loadAt, slotMisses}
 use Rattle.trace.proofs.Places.{kind-bound}
 use Rattle.trace.proofs.Counts.{traceMD-cached}
-use Rattle.useful.specs.Marks.{Marked}
-use Rattle.useful.proofs.Evicting.{evict-words}
+use Rattle.marks.specs.Marks.{Marked}
+use Rattle.marks.proofs.Evicting.{evict-words}
 use Rattle.useful.proofs.Passing.{point-first, point-last, points-start, marks-bound, point-next, point-misses, both-keep, both-add}
 use Rattle.useful.proofs.Recording.{Recording, recording-start, recording-turn, recording-end}
 use Rattle.useful.proofs.under_cache.Statement.{statement}

@@ -3,7 +3,7 @@ use mathlib.Core.Path.{sym, ap}
 use borrow.Author.Needs.{needs}
 use native.Mathlib.Omega.{arith}
 use Rattle.page.specs.Page.{answerPage}
-use Rattle.page.proofs.Buffer.{put-same}
+use Rattle.text.proofs.Buffer.{put-same}
 use Rattle.page.proofs.Answers.{printable-as, put-late, put-spent, put-bad}
 use Rattle.page.proofs.answer.answer_page.Statement.{statement}
 use Rattle.page.proofs.answer.answer_page.Tie as tie

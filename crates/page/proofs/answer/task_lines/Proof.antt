@@ -4,7 +4,7 @@ use mathlib.Core.Path.{_≡_, refl}
 use borrow.Author.Needs.{needs}
 use native.Mathlib.Omega.{arith}
 use lib.ListN.{length}
-use Rattle.page.specs.Buffer.{Put}
+use Rattle.text.specs.Buffer.{Put}
 use Rattle.page.specs.Page.{taskLines}
 use Rattle.page.proofs.Lines.{put-no-tasks, put-next-task}
 use Rattle.page.proofs.answer.task_lines.Statement.{statement}

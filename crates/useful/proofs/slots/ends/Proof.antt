@@ -5,7 +5,7 @@ use mathlib.Core.Bool.{Bool, not, _&&_}
 use mathlib.Core.Path.{sym, ap}
 use denote.Ref.{now}
 use Rattle.bitset.specs.Bits.{member}
-use Rattle.useful.specs.Marks.{markSet}
+use Rattle.marks.specs.Marks.{markSet}
 use Rattle.useful.proofs.Passing.{was-ended}
 use Rattle.useful.proofs.slots.ends.Statement.{statement}
 use Rattle.useful.proofs.slots.ends.Tie as tie

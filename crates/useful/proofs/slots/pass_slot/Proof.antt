@@ -9,7 +9,7 @@ use denote.Ref.{now}
 use Rattle.folds.specs.Folds.{when}
 use Rattle.bitset.specs.Bits.{member}
 use Rattle.bitset.proofs.Sets.{insert-words, remove-words}
-use Rattle.useful.specs.Marks.{markKept, markMisses}
+use Rattle.marks.specs.Marks.{markKept, markMisses}
 use Rattle.useful.proofs.Passing.{pass-none, pass-keep, pass-drop, was-useful, was-missed, slot-adds, not-false}
 use Rattle.useful.proofs.slots.pass_slot.Statement.{statement}
 use Rattle.useful.proofs.slots.pass_slot.Tie as tie

@@ -1,0 +1,2 @@
+-- The laws of the input.
+pub mod Words

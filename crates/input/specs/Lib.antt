@@ -1,0 +1,2 @@
+-- The program's input as words.
+pub mod Input

@@ -1,0 +1,63 @@
+-- `marks::mark_data` meets its contract.
+use borrow.Author.Needs.{needs}
+use borrow.Author.Tests.{eq-eqb, ne-eqb}
+use Prim.Native.Nat.{ℕ}
+use mathlib.Core.Bool.{Bool, _||_}
+use mathlib.Core.Path.{_≡_, sym, ap, _∙_}
+use native.Mathlib.Omega.{arith}
+use denote.Ref.{now}
+use lib.Dec.{eqb}
+use lib.ListN.{set}
+use Rattle.folds.specs.Folds.{when}
+use Rattle.bitset.specs.Bits.{member, wordsOf}
+use Rattle.board.specs.Layout.{kindOf}
+use Rattle.marks.specs.Marks.{markBy, withLoad, dataTouches}
+use Rattle.marks.proofs.Evicting.{join-none, touch-data}
+use Rattle.marks.proofs.Marking.{read-load, skip-first, skip-mark}
+use Rattle.marks.proofs.mark_data.Statement.{statement}
+use Rattle.marks.proofs.mark_data.Tie as tie
+
+executes : tie.Need-returns
+executes c =
+    let a = c .before .before .before .args in
+    let sets = a .cache .sets in
+    let kind : kindOf (a .w) ≡ 0 = omega arith in (
+      sym (ap (λ (b : Bool). when b 1) (ne-eqb (kindOf (a .w)) 2 (λ k. omega arith))),
+      skip-first sets (now (a .first)) (a .w) (λ k. omega arith),
+      join-none (now (a .ecb)) (dataTouches sets (a .w)) (c .before .before .before .pre .2) (c .before .before .slice-known .given) (λ s. rw (eq-eqb (kindOf (a .w)) 0 kind)),
+      ap (set (now (a .marks)) (a .e)) (skip-mark sets (now (a .first)) (a .w) (λ k. omega arith)),
+      omega arith,
+    )
+
+reads : tie.Need-returns-2
+reads c =
+    let loaded = c .before .before .before .before in
+    let a = loaded .before .before .before .before .before .before .before .args in
+    let sets = a .cache .sets in
+    let slot = sym (read-load (a .w) (omega arith)) in (
+      sym (ap (λ (b : Bool). when b 1) (ne-eqb (kindOf (a .w)) 2 (λ k. omega arith))),
+      loaded .mark-load .ensures .0 ∙ ap (withLoad sets (now (a .first))) slot,
+      loaded .mark-load .ensures .1 ∙ touch-data (now (a .ecb)) sets (a .w) (λ k. omega arith),
+      loaded .mark-load .ensures .2 ∙ ap (λ (x : ℕ). set (now (a .marks)) (a .e) (markBy sets (now (a .first)) x)) slot,
+      omega arith,
+    )
+
+writes : tie.Need-returns-3
+writes c =
+    let touched = c .before .before in
+    let s = touched .before .set-of in
+    let a = touched .before .before .before .before .before .before .args in
+    let sets = a .cache .sets in (
+      sym (ap (λ (b : Bool). when b 1) (eq-eqb (kindOf (a .w)) 2 (omega arith))),
+      skip-first sets (now (a .first)) (a .w) (λ k. omega arith),
+      touched .touch .ensures ∙ ap (λ (k : ℕ). wordsOf (λ t. member (now (a .ecb)) t || eqb k t)) (s .ensures .0)
+          ∙ touch-data (now (a .ecb)) sets (a .w) (λ k. omega arith),
+      ap (set (now (a .marks)) (a .e)) (skip-mark sets (now (a .first)) (a .w) (λ k. omega arith)),
+      omega arith,
+    )
+
+pub mark-data-spec : {M : Type 1} → statement M
+mark-data-spec =
+    tie.close
+    (tie.spec (λ c. search needs) (λ c. search needs) (λ c κs. search needs) (λ c κs. search needs) (λ c κs. search needs) (λ c. search needs)
+    (λ c. search needs) (λ c. search needs) executes (λ c. search needs) (λ c. search needs) reads (λ c. search needs) (λ c. search needs) writes)

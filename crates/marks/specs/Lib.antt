@@ -1,0 +1,2 @@
+-- The marks of a trace's slots.
+pub mod Marks

@@ -1,0 +1,3 @@
+-- The laws of a buffer that is filled, and of digits.
+pub mod Buffer
+pub mod Digits

@@ -1,0 +1,11 @@
+-- `text::put_byte` meets its contract.
+use borrow.Author.Needs.{needs}
+use Rattle.text.proofs.Buffer.{put-one}
+use Rattle.text.proofs.put_byte.Statement.{statement}
+use Rattle.text.proofs.put_byte.Tie as tie
+
+pub put-byte-spec : {M : Type 1} → statement M
+put-byte-spec =
+    tie.close
+    (tie.spec (λ c. search needs) (λ c. search needs) (λ c. search needs)
+    (λ c. put-one (c .args .out .now) (c .args .at) (c .args .byte) (c .pre)))

@@ -1,0 +1,3 @@
+-- Numbers and lines as bytes, in a lent buffer.
+pub mod Text
+pub mod Buffer
