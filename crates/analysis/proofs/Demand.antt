@@ -22,10 +22,10 @@ use Rattle.passes.proofs.Ascending.{Ascending}
 use Rattle.passes.proofs.Settling.{settled-length}
 use Rattle.passes.proofs.Choices.{firstLate-no-choice, firstLate-none, firstLate-smallest}
 use Rattle.settling.proofs.Sums.{system-ascending}
-use Rattle.analysis.specs.declared.Answer.{Answer}
-use Rattle.analysis.specs.declared.Answer.the-variants.{Times, Late, Spent}
-use Rattle.analysis.specs.Refusals.{timesRow, scratchRow, tableRow, analyseRefusal}
-use Rattle.analysis.specs.Answers.{system, settledAnswer, analyseAnswer, timesAfter}
+use Rattle.answers.specs.declared.Answer.{Answer}
+use Rattle.answers.specs.declared.Answer.the-variants.{Times, Late, Spent}
+use Rattle.answers.specs.Refusals.{timesRow, scratchRow, tableRow, analyseRefusal}
+use Rattle.answers.specs.Answers.{system, settledAnswer, analyseAnswer, timesAfter}
 use Rattle.analysis.specs.Demand.{Demand3}
 
 module _ {S : System} (up : Ascending S (pass S)) where

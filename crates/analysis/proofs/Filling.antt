@@ -37,8 +37,8 @@ use Rattle.figures.specs.Figures.{figureOf}
 use Rattle.figures.specs.Survey.{Fillable}
 use Rattle.figures.proofs.Figure as T
 use Rattle.figures.proofs.fill as fill
-use Rattle.analysis.specs.Answers.{tableAfter}
-use Rattle.analysis.specs.Records.{recordsOf}
+use Rattle.answers.specs.Answers.{tableAfter}
+use Rattle.answers.specs.Records.{recordsOf}
 use Rattle.analysis.proofs.Steps.{val, pointer}
 use Rattle.analysis.proofs.Table.{records-table}
 

@@ -1,9 +1,6 @@
 -- Demand 3 of the definitions, and what the proofs of the calls share.
 pub mod Demand
 pub mod Table
-pub mod Outcomes
-pub mod Concluded
-pub mod Begun
 pub mod Steps
 pub mod Loans
 pub mod Filling

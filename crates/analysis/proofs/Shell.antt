@@ -63,9 +63,9 @@ use Rattle.figures.proofs.Figure as T
 use Rattle.figures.proofs.Figure.Laws as T′
 use Rattle.figures.proofs.fill as fill
 use Rattle.figures.proofs.fill.Symbol.{name as #figures·fill}
-use Rattle.analysis.specs.Answers.{tableAfter, ScratchAfter}
-use Rattle.analysis.specs.Begun.{Begun, Concludable}
-use Rattle.analysis.proofs.Begun.{concludable, joined}
+use Rattle.answers.specs.Answers.{tableAfter, ScratchAfter}
+use Rattle.answers.specs.Begun.{Begun, Concludable}
+use Rattle.answers.proofs.Begun.{concludable, joined}
 use Rattle.analysis.proofs.Steps.{holds, both, says-all, is-unit, val}
 use Rattle.analysis.proofs.Loans.{renamed, KeptMut, KeptShr, lent-again, comes-back, lent-shared, unshared, zero-array, array-fits, local-in, local-out}
 use Rattle.analysis.proofs.Filling.{Sets, Fills, Counted, Filled, filled, to-fill, goes-fill}

@@ -9,8 +9,8 @@ use Rattle.board.specs.declared.Verdict.{Verdict}
 use Rattle.board.specs.declared.Verdict.the-variants.{Passed, Refused}
 use Rattle.figures.specs.declared.Figure.{Figure}
 use Rattle.figures.specs.Figures.{figureOf}
-use Rattle.analysis.specs.Answers.{tableAfter}
-use Rattle.analysis.specs.Records.{recordsOf}
+use Rattle.answers.specs.Answers.{tableAfter}
+use Rattle.answers.specs.Records.{recordsOf}
 
 pub records-table : (b : List ℕ) (v : Verdict) (old : List Figure) → fillTo (figureOf b) (recordsOf v b) old ≡ tableAfter b v old
 unfolding tableAfter

@@ -1,7 +1,2 @@
--- The four calls: what each refuses, answers and leaves, and demand 3.
-pub mod Refusals
-pub mod Answers
+-- Demand 3, which `analyse` meets.
 pub mod Demand
-pub mod Records
-pub mod Begun
-pub mod Concluded

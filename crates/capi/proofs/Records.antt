@@ -9,7 +9,7 @@ use Rattle.folds.proofs.Lists.{fillTo-none}
 use Rattle.board.specs.declared.Verdict.{Verdict}
 use Rattle.board.specs.declared.Verdict.the-variants.{Passed, Refused}
 use Rattle.figures.specs.Figures.{figureOf}
-use Rattle.analysis.specs.Records.{recordsOf}
+use Rattle.answers.specs.Records.{recordsOf}
 use Rattle.capi.specs.Records.{figureWords, recordWords, recordsAfter}
 
 -- the words are those of the record that word w is in, unless w is the first word of a record

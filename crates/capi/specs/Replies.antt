@@ -1,10 +1,10 @@
 -- What a call gives for its answer: a code, and two numbers of which number k stands in word k of `numbers`.
 -- Assumes nothing.
 use Prim.Native.Nat.{ℕ, zero, suc}
-use Rattle.analysis.specs.declared.Answer.{Answer}
-use Rattle.analysis.specs.declared.Answer.the-variants.{Times, Late, Spent, Refused}
-use Rattle.analysis.specs.declared.Outcome.{Outcome}
-use Rattle.analysis.specs.declared.Outcome.the-variants.{Value, Refused as Outcome·Refused}
+use Rattle.answers.specs.declared.Answer.{Answer}
+use Rattle.answers.specs.declared.Answer.the-variants.{Times, Late, Spent, Refused}
+use Rattle.answers.specs.declared.Outcome.{Outcome}
+use Rattle.answers.specs.declared.Outcome.the-variants.{Value, Refused as Outcome·Refused}
 
 -- number k of two
 abbrev pub two : ℕ → ℕ → ℕ → ℕ

@@ -12,8 +12,8 @@ ghost use lib.ListN.{length};
 ghost use Rattle.folds.specs.Folds.{fillTo};
 ghost use Rattle.board.specs.Layout.{passLimit};
 ghost use Rattle.board.specs.declared.Verdict.the-variants.{Passed};
-ghost use Rattle.analysis.specs.Refusals.{figuresRefusal, analyseRefusal};
-ghost use Rattle.analysis.specs.Answers.{system, figuresAnswer, overheadAnswer, weighAnswer, analyseAnswer, timesAfter, ScratchAfter};
+ghost use Rattle.answers.specs.Refusals.{figuresRefusal, analyseRefusal};
+ghost use Rattle.answers.specs.Answers.{system, figuresAnswer, overheadAnswer, weighAnswer, analyseAnswer, timesAfter, ScratchAfter};
 ghost use Rattle.analysis.specs.Demand.{Demand3};
 ghost use Rattle.capi.specs.Replies.{outcomeCode, outcomeNumber, answerCode, answerNumber};
 ghost use Rattle.capi.specs.Records.{recordsAfter};
@@ -28,9 +28,9 @@ pub extern "C" fn zuzgravel_figures(board: &[u32], records: &mut [u32], numbers:
     let room = records.len() / 13;
     let mut words = [0u32; 256];
     let mut sets = [0u64; 256];
-    let n = analysis::prepare_figures(board, room, &mut words, &mut sets);
+    let n = answers::prepare_figures(board, room, &mut words, &mut sets);
     fill(board, n, &words, &sets, records);
-    of_outcome(analysis::figures_outcome(board, n, room), numbers)
+    of_outcome(answers::figures_outcome(board, n, room), numbers)
 }
 
 // Overhead: the value is γ(i, j); tasks are their numbers from 1.
@@ -75,7 +75,7 @@ pub extern "C" fn zuzgravel_analyse(
 {
     let room = records.len() / 13;
     let mut sets = [0u64; 256];
-    let n = analysis::prepare(board, times.len(), scratch, room, &mut sets);
+    let n = answers::prepare(board, times.len(), scratch, room, &mut sets);
     fill(board, n, scratch, &sets, records);
-    of_answer(analysis::conclude(board, n, times, scratch, room), numbers)
+    of_answer(answers::conclude(board, n, times, scratch, room), numbers)
 }

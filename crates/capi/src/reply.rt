@@ -1,6 +1,6 @@
 // The answers of the calls as a code and two numbers.
-use analysis::Answer;
-use analysis::Outcome;
+use answers::Answer;
+use answers::Outcome;
 ghost use mathlib.Core.Path.{_≡_};
 ghost use lib.ListN.{set};
 ghost use Rattle.folds.specs.Folds.{fillTo};

@@ -14,14 +14,14 @@ use Rattle.figures.specs.Figures.{taskPD, taskMD, evicting, figureOf}
 use Rattle.figures.specs.Overhead.{evictedBy, reloads, γ}
 use Rattle.sums.specs.Sums.{memoryDemand, ownAccesses, carryIn, coreAccesses, lowerAccesses, interference, busAccesses, refreshes, higherWork, taskSum}
 use Rattle.passes.specs.Passes.{pass, after, unchanged, changes, passesBy, settledBy, firstLate}
-use Rattle.analysis.specs.Refusals.{figuresRefusal, overheadRefusal, analyseRefusal}
-use Rattle.analysis.specs.Answers.{figuresAnswer, overheadAnswer, settledAnswer, analyseAnswer, timesAfter}
+use Rattle.answers.specs.Refusals.{figuresRefusal, overheadRefusal, analyseRefusal}
+use Rattle.answers.specs.Answers.{figuresAnswer, overheadAnswer, settledAnswer, analyseAnswer, timesAfter}
 use Rattle.input.specs.Input.{wordsIn, inputRefusal}
 use Rattle.text.specs.Text.{digitsOf, decimal, line}
 use Rattle.page.specs.Page.{taskLines, answerPage, boardPage, pageOf}
-use Rattle.analysis.specs.declared.Answer.{Answer}
-use Rattle.analysis.specs.declared.Answer.the-variants.{Times, Late, Spent}
-use Rattle.analysis.specs.declared.Outcome.the-variants.{Value}
+use Rattle.answers.specs.declared.Answer.{Answer}
+use Rattle.answers.specs.declared.Answer.the-variants.{Times, Late, Spent}
+use Rattle.answers.specs.declared.Outcome.the-variants.{Value}
 
 -- ---- K1 to K8: boards without a cache
 

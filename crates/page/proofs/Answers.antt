@@ -4,8 +4,8 @@ use Prim.Native.Nat.{ℕ}
 use mathlib.Core.List.{List, [], _∷_}
 use mathlib.Core.Path.{_≡_, sym, ap, ap₂, subst, _∙_}
 use Rattle.board.specs.Layout.{tasks, passLimit}
-use Rattle.analysis.specs.declared.Answer.{Answer}
-use Rattle.analysis.specs.declared.Answer.the-variants.{Times, Late, Spent, Refused}
+use Rattle.answers.specs.declared.Answer.{Answer}
+use Rattle.answers.specs.declared.Answer.the-variants.{Times, Late, Spent, Refused}
 use Rattle.text.specs.Text.{decimal, line, okText, lateText, spentText, badText}
 use Rattle.text.specs.Buffer.{Put}
 use Rattle.page.specs.Page.{taskLines, answerPage}

@@ -14,10 +14,10 @@ use Rattle.board.specs.declared.Verdict.{Verdict}
 use Rattle.board.specs.declared.Verdict.the-variants.{Passed, Refused as Verdict·Refused}
 use Rattle.board.proofs.Verdicts.{orElse-passed, refuseUnless-passed}
 use Rattle.board.proofs.Sound.{sound}
-use Rattle.analysis.specs.Refusals.{timesRow, scratchRow, tableRow, analyseRefusal}
-use Rattle.analysis.specs.Answers.{answerBy, analyseAnswer, timesAfter}
-use Rattle.analysis.specs.declared.Answer.{Answer}
-use Rattle.analysis.specs.declared.Answer.the-variants.{Times, Late, Spent, Refused}
+use Rattle.answers.specs.Refusals.{timesRow, scratchRow, tableRow, analyseRefusal}
+use Rattle.answers.specs.Answers.{answerBy, analyseAnswer, timesAfter}
+use Rattle.answers.specs.declared.Answer.{Answer}
+use Rattle.answers.specs.declared.Answer.the-variants.{Times, Late, Spent, Refused}
 use Rattle.input.specs.Input.{wordsIn, inputRefusal}
 use Rattle.page.specs.Page.{lentTimes, lentScratch, lentRecords, badLine, answerPage, boardPage, pageBy, pageOf}
 use Rattle.page.specs.Printable.{Printable}

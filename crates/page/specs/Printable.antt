@@ -5,8 +5,8 @@ use mathlib.Core.List.{List}
 use lib.ListN.{length}
 use Rattle.board.specs.Layout.{tasks}
 use Rattle.board.specs.Sound.{Sound}
-use Rattle.analysis.specs.declared.Answer.{Answer}
-use Rattle.analysis.specs.declared.Answer.the-variants.{Times, Late, Spent, Refused}
+use Rattle.answers.specs.declared.Answer.{Answer}
+use Rattle.answers.specs.declared.Answer.the-variants.{Times, Late, Spent, Refused}
 
 -- times are printed of a sound board with a time for each task, and the pass limit of a sound board
 abbrev pub Printable : List ℕ → List ℕ → Answer → Type 0

@@ -1,7 +1,7 @@
 // Reads boards from standard input, one to a line, each followed by six lines with a task's number and times, and prints the sum of that task at these
 // times, or `bad` with number and place.
-use analysis::Outcome;
 use analysis::weigh;
+use answers::Outcome;
 use folds::index;
 use libc::STDOUT_FILENO;
 use lines::print::print_refusal;

@@ -3,9 +3,9 @@
 use lib.ListN.{length}
 use denote.Ref.{now}
 use borrow.Author.Needs.{needs}
-use Rattle.analysis.specs.Refusals.{analyseRefusal}
-use Rattle.analysis.specs.Answers.{analyseAnswer}
-use Rattle.analysis.proofs.Begun.{concludable, joined}
+use Rattle.answers.specs.Refusals.{analyseRefusal}
+use Rattle.answers.specs.Answers.{analyseAnswer}
+use Rattle.answers.proofs.Begun.{concludable, joined}
 use Rattle.analysis.proofs.analyse_alone.Statement.{statement}
 use Rattle.analysis.proofs.analyse_alone.Tie as tie
 

@@ -5,9 +5,9 @@ use native.Mathlib.Omega.{arith}
 use borrow.Author.Needs.{needs}
 use Rattle.board.specs.declared.Verdict.the-variants.{Passed}
 use Rattle.calls.proofs.Accepted.{overhead-taken}
-use Rattle.analysis.specs.Refusals.{overheadRefusal}
-use Rattle.analysis.specs.Answers.{overheadAnswer}
-use Rattle.analysis.proofs.Outcomes.{outcome-value, outcome-refused}
+use Rattle.answers.specs.Refusals.{overheadRefusal}
+use Rattle.answers.specs.Answers.{overheadAnswer}
+use Rattle.answers.proofs.Outcomes.{outcome-value, outcome-refused}
 use Rattle.analysis.proofs.overhead.Statement.{statement}
 use Rattle.analysis.proofs.overhead.Tie as tie
 

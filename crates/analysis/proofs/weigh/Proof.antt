@@ -4,9 +4,9 @@ use mathlib.Core.Path.{_≡_, sym, _∙_}
 use borrow.Author.Needs.{needs}
 use Rattle.board.specs.declared.Verdict.the-variants.{Passed}
 use Rattle.calls.proofs.Accepted.{weigh-taken}
-use Rattle.analysis.specs.Refusals.{weighRefusal}
-use Rattle.analysis.specs.Answers.{weighAnswer}
-use Rattle.analysis.proofs.Outcomes.{outcome-value, outcome-refused}
+use Rattle.answers.specs.Refusals.{weighRefusal}
+use Rattle.answers.specs.Answers.{weighAnswer}
+use Rattle.answers.proofs.Outcomes.{outcome-value, outcome-refused}
 use Rattle.analysis.proofs.weigh.Statement.{statement}
 use Rattle.analysis.proofs.weigh.Tie as tie
 

@@ -6,10 +6,10 @@ use denote.Ref.{now}
 use lib.ListN.{length}
 use borrow.Author.Needs.{needs}
 use Rattle.board.specs.declared.Verdict.{Verdict}
-use Rattle.analysis.specs.Refusals.{analyseRefusal}
-use Rattle.analysis.specs.Answers.{analyseAnswer, timesAfter}
-use Rattle.analysis.specs.declared.Answer.{Answer}
-use Rattle.analysis.proofs.Begun.{concludable, joined}
+use Rattle.answers.specs.Refusals.{analyseRefusal}
+use Rattle.answers.specs.Answers.{analyseAnswer, timesAfter}
+use Rattle.answers.specs.declared.Answer.{Answer}
+use Rattle.answers.proofs.Begun.{concludable, joined}
 use Rattle.analysis.proofs.Demand.{demand3-met}
 use Rattle.capi.specs.Replies.{answerCode, answerNumber}
 use Rattle.capi.proofs.Replies.{replies-as}

@@ -1,13 +1,13 @@
--- `analysis::figures_outcome` meets its contract.
+-- `answers::figures_outcome` meets its contract.
 -- Assumes nothing.
 use mathlib.Core.Path.{sym, _∙_}
 use denote.Ref.{now}
 use borrow.Author.Needs.{needs}
-use Rattle.analysis.specs.Refusals.{figuresRefusal}
-use Rattle.analysis.specs.Answers.{figuresAnswer}
-use Rattle.analysis.proofs.Outcomes.{outcome-value, outcome-refused, records-passed, records-tasks}
-use Rattle.analysis.proofs.figures_outcome.Statement.{statement}
-use Rattle.analysis.proofs.figures_outcome.Tie as tie
+use Rattle.answers.specs.Refusals.{figuresRefusal}
+use Rattle.answers.specs.Answers.{figuresAnswer}
+use Rattle.answers.proofs.Outcomes.{outcome-value, outcome-refused, records-passed, records-tasks}
+use Rattle.answers.proofs.figures_outcome.Statement.{statement}
+use Rattle.answers.proofs.figures_outcome.Tie as tie
 
 pub figures-outcome-spec : {M : Type 1} → statement M
 unfolding figuresAnswer

@@ -14,10 +14,10 @@ use Rattle.settling.specs.Settling.{passesOf, Ended}
 use Rattle.settling.proofs.Ends.{over-is, needed-is}
 use Rattle.late.specs.Delivered.{delivered}
 use Rattle.late.proofs.Delivered.{delivered-late, delivered-none}
-use Rattle.analysis.specs.declared.Answer.{Answer}
-use Rattle.analysis.specs.declared.Answer.the-variants.{Times, Late, Spent}
-use Rattle.analysis.specs.Answers.{system, settledAnswer, timesAfter}
-use Rattle.analysis.specs.Concluded.{Concluded}
+use Rattle.answers.specs.declared.Answer.{Answer}
+use Rattle.answers.specs.declared.Answer.the-variants.{Times, Late, Spent}
+use Rattle.answers.specs.Answers.{system, settledAnswer, timesAfter}
+use Rattle.answers.specs.Concluded.{Concluded}
 
 module _ (b old : List ℕ) {limit : ℕ} (limit-is : limit ≡ passLimit b) {w w' : List ℕ} (ended : Ended (system b) limit w w') where
   by-limit : {r : Answer} → r ≡ settledAnswer (system b) limit → r ≡ settledAnswer (system b) (passLimit b)

@@ -1,4 +1,4 @@
--- `analysis::prepare_figures` meets its contract.
+-- `answers::prepare_figures` meets its contract.
 -- Assumes nothing.
 use mathlib.Core.Bool.{false≢true}
 use mathlib.Core.Path.{_≡_, sym, _∙_}
@@ -8,10 +8,10 @@ use Rattle.board.specs.Layout.{tasks}
 use Rattle.board.specs.declared.Verdict.the-variants.{Passed}
 use Rattle.figures.proofs.Fillable.{fillable-tasks, fillable-none, held-tasks}
 use Rattle.calls.proofs.Accepted.{figures-taken}
-use Rattle.analysis.specs.Refusals.{figuresRefusal}
-use Rattle.analysis.proofs.Outcomes.{tasks-records, none-records}
-use Rattle.analysis.proofs.prepare_figures.Statement.{statement}
-use Rattle.analysis.proofs.prepare_figures.Tie as tie
+use Rattle.answers.specs.Refusals.{figuresRefusal}
+use Rattle.answers.proofs.Outcomes.{tasks-records, none-records}
+use Rattle.answers.proofs.prepare_figures.Statement.{statement}
+use Rattle.answers.proofs.prepare_figures.Tie as tie
 
 -- where nothing is refused
 abbrev Taken : Type 0

@@ -7,8 +7,8 @@ use Rattle.board.specs.declared.Verdict.{Verdict}
 use Rattle.board.specs.declared.Verdict.the-variants.{Passed}
 use Rattle.figures.specs.Survey.{Fillable}
 use Rattle.scratch.specs.Scratch.{Prepared}
-use Rattle.analysis.specs.Answers.{ScratchAfter}
-use Rattle.analysis.specs.Records.{recordsOf}
+use Rattle.answers.specs.Answers.{ScratchAfter}
+use Rattle.answers.specs.Records.{recordsOf}
 
 -- after the checks and the figures: n records are to be filled from the scratch, which was `old`, and the sets
 pub record Begun (b : List ℕ) (v : Verdict) (room n : ℕ) (old scratch sets : List ℕ) : Type 0 where

@@ -8,7 +8,7 @@ ghost use lib.ListN.{length};
 ghost use Rattle.sums.specs.Sums.{taskSum};
 ghost use Rattle.scratch.specs.Scratch.{Prepared};
 ghost use Rattle.calls.specs.Accepted.{WeighTaken};
-ghost use Rattle.analysis.specs.Concluded.{Concluded};
+ghost use Rattle.answers.specs.Concluded.{Concluded};
 
 // The passes and the answer, over a prepared scratch. The settled times are in the buffer where they are the answer.
 pub fn answer(board: &[u32], n: usize, times: &mut [u32], scratch: &mut [u32]) -> Answer

@@ -1,11 +1,11 @@
--- `analysis::taken::sum` meets its contract.
+-- `answers::taken::sum` meets its contract.
 -- Assumes nothing.
 use mathlib.Core.Path.{_∙_}
 use native.Mathlib.Omega.{arith}
 use borrow.Author.Needs.{needs}
-use Rattle.analysis.proofs.Outcomes.{room-for, most-words}
-use Rattle.analysis.proofs.taken.sum.Statement.{statement}
-use Rattle.analysis.proofs.taken.sum.Tie as tie
+use Rattle.answers.proofs.Outcomes.{room-for, most-words}
+use Rattle.answers.proofs.taken.sum.Statement.{statement}
+use Rattle.answers.proofs.taken.sum.Tie as tie
 
 pub sum-spec : {M : Type 1} → statement M
 sum-spec =

@@ -1,4 +1,4 @@
--- `analysis::conclude` meets its contract: where there are records nothing is refused, and where there are none the checks refuse.
+-- `answers::conclude` meets its contract: where there are records nothing is refused, and where there are none the checks refuse.
 -- Assumes nothing.
 use Prim.Native.Nat.{_<_}
 use mathlib.Core.Path.{_≡_, sym, _∙_}
@@ -7,11 +7,11 @@ use lib.ListN.{length}
 use borrow.Author.Needs.{needs}
 use Rattle.board.specs.declared.Verdict.the-variants.{Passed}
 use Rattle.calls.proofs.Accepted.{analyse-taken}
-use Rattle.analysis.specs.Refusals.{analyseRefusal}
-use Rattle.analysis.specs.Answers.{analyseAnswer}
-use Rattle.analysis.proofs.Outcomes.{records-passed, records-tasks, leaves-refused, leaves-answer}
-use Rattle.analysis.proofs.conclude.Statement.{statement}
-use Rattle.analysis.proofs.conclude.Tie as tie
+use Rattle.answers.specs.Refusals.{analyseRefusal}
+use Rattle.answers.specs.Answers.{analyseAnswer}
+use Rattle.answers.proofs.Outcomes.{records-passed, records-tasks, leaves-refused, leaves-answer}
+use Rattle.answers.proofs.conclude.Statement.{statement}
+use Rattle.answers.proofs.conclude.Tie as tie
 
 passed : (s : tie.Start) → let a = s .args in 0 < a .n → analyseRefusal (a .board .now) (length (a .times .now)) (length (a .scratch .now)) (a .room) ≡ Passed
 passed s h = records-passed (s .args .board .now) (s .args .n) _ (s .pre .count) h

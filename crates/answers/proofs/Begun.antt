@@ -12,9 +12,9 @@ use Rattle.figures.specs.Survey.{Held}
 use Rattle.figures.proofs.Fillable.{fillable-tasks, fillable-none}
 use Rattle.scratch.specs.Scratch.{Prepared}
 use Rattle.calls.specs.Accepted.{AnalyseTaken}
-use Rattle.analysis.specs.Answers.{ScratchAfter}
-use Rattle.analysis.specs.Begun.{Begun, Concludable}
-use Rattle.analysis.proofs.Outcomes.{tasks-records, none-records}
+use Rattle.answers.specs.Answers.{ScratchAfter}
+use Rattle.answers.specs.Begun.{Begun, Concludable}
+use Rattle.answers.proofs.Outcomes.{tasks-records, none-records}
 
 -- as many words, whatever the verdict is
 same-size : (old new : List ℕ) (v : Verdict) → ScratchAfter v old new → length new ≡ length old

@@ -17,11 +17,11 @@ use Rattle.sums.specs.Sums.{taskSum}
 use Rattle.passes.specs.Passes.{System, passesNeeded, settled, firstLate}
 -- the passes of a board
 pub use Rattle.settling.specs.System.{system}
-use Rattle.analysis.specs.Refusals.{figuresRefusal, overheadRefusal, weighRefusal, analyseRefusal}
-use Rattle.analysis.specs.declared.Answer.{Answer}
-use Rattle.analysis.specs.declared.Answer.the-variants.{Times, Late, Spent, Refused}
-use Rattle.analysis.specs.declared.Outcome.{Outcome}
-use Rattle.analysis.specs.declared.Outcome.the-variants.{Value, Refused as Outcome·Refused}
+use Rattle.answers.specs.Refusals.{figuresRefusal, overheadRefusal, weighRefusal, analyseRefusal}
+use Rattle.answers.specs.declared.Answer.{Answer}
+use Rattle.answers.specs.declared.Answer.the-variants.{Times, Late, Spent, Refused}
+use Rattle.answers.specs.declared.Outcome.{Outcome}
+use Rattle.answers.specs.declared.Outcome.the-variants.{Value, Refused as Outcome·Refused}
 
 -- ---- Figures, Overhead, Weigh: the value, unless refused
 

@@ -1,4 +1,4 @@
--- `analysis::taken::answer` meets its contract: each way out is a law of `Concluded`.
+-- `answers::taken::answer` meets its contract: each way out is a law of `Concluded`.
 -- Assumes nothing.
 use mathlib.Core.Path.{_≡_, sym, _∙_}
 use native.Mathlib.Omega.{arith}
@@ -8,10 +8,10 @@ use borrow.Author.Needs.{needs}
 use Rattle.board.specs.Layout.{passLimit}
 use Rattle.settling.specs.declared.Passes.the-variants.{Needed}
 use Rattle.settling.specs.Settling.{passesOf}
-use Rattle.analysis.specs.Answers.{system}
-use Rattle.analysis.proofs.Concluded.{concluded-spent, concluded-late, concluded-times}
-use Rattle.analysis.proofs.taken.answer.Statement.{statement}
-use Rattle.analysis.proofs.taken.answer.Tie as tie
+use Rattle.answers.specs.Answers.{system}
+use Rattle.answers.proofs.Concluded.{concluded-spent, concluded-late, concluded-times}
+use Rattle.answers.proofs.taken.answer.Statement.{statement}
+use Rattle.answers.proofs.taken.answer.Tie as tie
 
 -- after the passes, and after the times were delivered
 abbrev Ran : Type 0

@@ -1,15 +1,15 @@
--- `analysis::prepare` meets its contract.
+-- `answers::prepare` meets its contract.
 -- Assumes nothing.
 use mathlib.Core.Path.{_≡_, sym, _∙_}
 use lib.ListN.{length}
 use borrow.Author.Needs.{needs}
 use Rattle.board.specs.declared.Verdict.the-variants.{Passed}
 use Rattle.calls.proofs.Accepted.{analyse-taken}
-use Rattle.analysis.specs.Refusals.{analyseRefusal}
-use Rattle.analysis.proofs.Outcomes.{room-for}
-use Rattle.analysis.proofs.Begun.{begun-tasks, begun-none}
-use Rattle.analysis.proofs.prepare.Statement.{statement}
-use Rattle.analysis.proofs.prepare.Tie as tie
+use Rattle.answers.specs.Refusals.{analyseRefusal}
+use Rattle.answers.proofs.Outcomes.{room-for}
+use Rattle.answers.proofs.Begun.{begun-tasks, begun-none}
+use Rattle.answers.proofs.prepare.Statement.{statement}
+use Rattle.answers.proofs.prepare.Tie as tie
 
 -- where nothing is refused
 abbrev Taken : Type 0

@@ -11,12 +11,12 @@ use Rattle.board.specs.Sound.{Sound}
 use Rattle.board.specs.declared.Verdict.{Verdict}
 use Rattle.board.specs.declared.Verdict.the-variants.{Passed, Refused}
 use Rattle.scratch.specs.Scratch.{Room}
-use Rattle.analysis.specs.declared.Answer.{Answer}
-use Rattle.analysis.specs.declared.Answer.the-variants.{Refused as Answer·Refused}
-use Rattle.analysis.specs.declared.Outcome.the-variants.{Value, Refused as Outcome·Refused}
-use Rattle.analysis.specs.Answers.{unlessRefused, answerBy, timesAfter, ScratchAfter}
-use Rattle.analysis.specs.Concluded.{Concluded}
-use Rattle.analysis.specs.Records.{recordsOf}
+use Rattle.answers.specs.declared.Answer.{Answer}
+use Rattle.answers.specs.declared.Answer.the-variants.{Refused as Answer·Refused}
+use Rattle.answers.specs.declared.Outcome.the-variants.{Value, Refused as Outcome·Refused}
+use Rattle.answers.specs.Answers.{unlessRefused, answerBy, timesAfter, ScratchAfter}
+use Rattle.answers.specs.Concluded.{Concluded}
+use Rattle.answers.specs.Records.{recordsOf}
 
 -- ---- figures, overhead and weigh: v is what the checks say
 

@@ -5,8 +5,8 @@ use mathlib.Core.List.{List}
 use mathlib.Core.Path.{_≡_}
 use lib.ListN.{length}
 use Rattle.board.specs.Layout.{passLimit}
-use Rattle.analysis.specs.declared.Answer.{Answer}
-use Rattle.analysis.specs.Answers.{system, settledAnswer, timesAfter}
+use Rattle.answers.specs.declared.Answer.{Answer}
+use Rattle.answers.specs.Answers.{system, settledAnswer, timesAfter}
 
 -- the buffers were `times` and `scratch`, and are times' and scratch'
 pub record Concluded (b times scratch : List ℕ) (r : Answer) (times' scratch' : List ℕ) : Type 0 where

@@ -1,0 +1,6 @@
+-- What each call refuses, answers and leaves.
+pub mod Refusals
+pub mod Answers
+pub mod Records
+pub mod Begun
+pub mod Concluded
