@@ -43,14 +43,22 @@ pub fn less(x: u64, y: u64) -> u64
     if x < y { 0 } else { x - y }
 }
 
-// x / y rounded up: no division where x is at most y.
+// x / y rounded up.
 pub fn ceil_div(x: u64, y: u64) -> u64
+    requires { ⌜ (0 < y) × (x + y ≤ 2 ^ 64) ⌝ }
+    ensures { λ r. ⌜ (r ≡ ceilDiv x y) × (r ≤ x) ⌝ }
+{
+    (x + (y - 1)) / y
+}
+
+// The same, with no division where x is at most y: for callers that often have it so.
+pub fn ceil_div_tested(x: u64, y: u64) -> u64
     requires { ⌜ (0 < y) × (x + y ≤ 2 ^ 64) ⌝ }
     ensures { λ r. ⌜ (r ≡ ceilDiv x y) × (r ≤ x) ⌝ }
 {
     if x <= y {
         smaller(x, 1)
     } else {
-        (x + (y - 1)) / y
+        ceil_div(x, y)
     }
 }

@@ -4,7 +4,7 @@ use crate::rows::time;
 use crate::rows::work;
 use board::fields::core;
 use board::fields::period;
-use folds::ceil_div;
+use folds::ceil_div_tested;
 use folds::wide;
 ghost use mathlib.Core.Path.{_≡_};
 ghost use Prim.Native.Nat.{_+_, _<_, _≤_, _^_};
@@ -26,7 +26,7 @@ fn releases(board: &[u32], times: &[u32], i: usize, k: usize) -> u64
     requires { ⌜ (Sound (now board)) × Times (now board) (now times) × (i < at.tasks (now board)) × (k < at.tasks (now board)) ⌝ }
     ensures { λ r. ⌜ (r ≡ spec.releases (now (board .entry)) i k (getD (now (times .entry)) i 0)) × (r ≤ 2 ^ 28) ⌝ }
 {
-    ceil_div(time(board, times, i), wide(period(board, k)))
+    ceil_div_tested(time(board, times, i), wide(period(board, k)))
 }
 
 // The sums with the releases of task k added, if it is on the core of task i.

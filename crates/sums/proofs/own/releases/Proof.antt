@@ -6,7 +6,7 @@ use Rattle.sums.proofs.own.releases.Statement.{statement}
 use Rattle.sums.proofs.own.releases.Tie as tie
 
 returns : tie.Need-returns
-returns c = (c .ceil-div .ensures .0 ∙ ap₂ ceilDiv (c .before .before .before .time .ensures .0) (c .before .wide .ensures .0 ∙ c .before .before .period .ensures .0), omega arith)
+returns c = (c .ceil-div-tested .ensures .0 ∙ ap₂ ceilDiv (c .before .before .before .time .ensures .0) (c .before .wide .ensures .0 ∙ c .before .before .period .ensures .0), omega arith)
 
 pub releases-spec : {M : Type 1} → statement M
 releases-spec =
