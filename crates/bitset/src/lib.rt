@@ -1,11 +1,12 @@
 // Sets of numbers below 256, as the bits of four 64-bit words: s is bit s mod 64 (bit 0 lowest) of word floor(s/64).
 // The contracts hold for any four words.
 ghost use mathlib.Core.Path.{_≡_};
-ghost use mathlib.Core.Bool.{_&&_, _||_, false};
+ghost use mathlib.Core.Bool.{not, _&&_, _||_, false};
 ghost use Prim.Native.Nat.{ℕ, _<_, _≤_};
 ghost use lib.Dec.{eqb};
 ghost use lib.Bits.{bitAnd};
 ghost use lib.Count.{ones};
+ghost use lib.ListN.{length};
 ghost use Rattle.folds.specs.Folds.{countTo};
 ghost use Rattle.bitset.specs.Bits.{member, wordsOf};
 
@@ -22,9 +23,7 @@ pub fn insert(set: [u64; 4], s: usize) -> [u64; 4]
     ensures { λ r. ⌜ r ≡ wordsOf (λ (t : ℕ). eqb t s || member set t) ⌝ }
 {
     let mut out = set;
-    let i = s / 64;
-    let w = out[i];
-    out[i] = (1u64 << (s % 64)) | w;
+    add_to(&mut out, s);
     out
 }
 
@@ -33,8 +32,34 @@ pub fn contains(set: [u64; 4], s: usize) -> bool
     requires { ⌜ s < 256 ⌝ }
     ensures { λ r. ⌜ r ≡ member set s ⌝ }
 {
+    is_in(&set, s)
+}
+
+// The same three on a set that is lent: whether s is in it, s added, and s taken out.
+pub fn is_in(set: &[u64], s: usize) -> bool
+    requires { ⌜ (s < 256) × (length (now set) ≡ 4) ⌝ }
+    ensures { λ r. ⌜ r ≡ member (now (set .entry)) s ⌝ }
+{
     let w = set[s / 64];
     (w >> (s % 64)) % 2 == 1
+}
+
+pub fn add_to(set: &mut [u64], s: usize)
+    requires { ⌜ (s < 256) × (length (now set) ≡ 4) ⌝ }
+    ensures { λ _. ⌜ now (set .exit) ≡ wordsOf (λ (t : ℕ). eqb t s || member (now (set .entry)) t) ⌝ }
+{
+    let i = s / 64;
+    let w = set[i];
+    set[i] = (1u64 << (s % 64)) | w;
+}
+
+pub fn take_from(set: &mut [u64], s: usize)
+    requires { ⌜ (s < 256) × (length (now set) ≡ 4) ⌝ }
+    ensures { λ _. ⌜ now (set .exit) ≡ wordsOf (λ (t : ℕ). not (eqb t s) && member (now (set .entry)) t) ⌝ }
+{
+    let i = s / 64;
+    let w = set[i];
+    set[i] = !(1u64 << (s % 64)) & w;
 }
 
 // The numbers in a or in b.

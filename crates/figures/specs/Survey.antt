@@ -5,17 +5,16 @@ use mathlib.Core.Bool.{Bool, true}
 use mathlib.Core.List.{List}
 use mathlib.Core.Path.{_≡_}
 use lib.ListN.{length, getD}
-use Rattle.bitset.specs.Bits.{wordsOf}
-use Rattle.useful.specs.Records.{recordAt}
 use Rattle.figures.specs.Ready.{Ready}
-use Rattle.figures.specs.Figures.{taskPD, taskMD, evicting}
+use Rattle.figures.specs.Figures.{taskPD, taskMD}
 use Rattle.figures.specs.Overhead.{γ}
+use Rattle.figures.specs.Rows.{Evicting}
 
 -- The figures of the first `count` of n tasks as words: PD from word 2n on, MD from 3n on, and ECB as records of four 64-bit words.
 pub record Held (b : List ℕ) (n count : ℕ) (words sets : List ℕ) : Type 0 where
   pub pd : (k : ℕ) → k < count → getD words (2 * n + k) 0 ≡ taskPD b k
   pub md : (k : ℕ) → k < count → getD words (3 * n + k) 0 ≡ taskMD b k
-  pub ecb : (k : ℕ) → k < count → recordAt sets k ≡ wordsOf (evicting b k)
+  pub ecb : Evicting b count sets
 
 -- and γ(i, j) as word 4n + i × n + j, a row of n words a task
 abbrev pub Overheads : List ℕ → ℕ → ℕ → List ℕ → Type 0

@@ -1,4 +1,5 @@
 // The scan of a trace backwards: it marks each slot by what the slot loads.
+use bitset::add_to;
 use folds::one_if;
 use trace::cache::Cache;
 use trace::cache::set_of;
@@ -74,7 +75,7 @@ fn mark_data(
             0
         }
         _ => {
-            touch(ecb, set_of(cache, w % 65536));
+            add_to(ecb, set_of(cache, w % 65536));
             marks[e] = 0;
             1
         }
@@ -96,18 +97,8 @@ fn mark_load(
         × (now (marks .exit) ≡ set (now (marks .entry)) e (markBy (cache .sets) (now (first .entry)) (block + 1))) ⌝ }
 {
     let s = set_of(cache, block);
-    touch(ecb, s);
+    add_to(ecb, s);
     let x = block + 1;
     marks[e] = 1 + 2 * (s as u32) + one_if(x == first[s]);
     first[s] = x;
-}
-
-// Adds s to the sets in place.
-fn touch(sets: &mut [u64], s: usize)
-    requires { ⌜ (s < 256) × (length (now sets) ≡ 4) ⌝ }
-    ensures { λ _. ⌜ now (sets .exit) ≡ wordsOf (λ (t : ℕ). member (now (sets .entry)) t || eqb s t) ⌝ }
-{
-    let i = s / 64;
-    let w = sets[i];
-    sets[i] = (1u64 << (s % 64)) | w;
 }

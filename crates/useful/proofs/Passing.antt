@@ -1,6 +1,6 @@
 -- The scan of slots forwards: what a slot of a mark does to the useful sets, and so the useful sets and the misses of a trace.
 -- Assumes nothing.
-use Prim.Native.Nat.{ℕ, _+_, _-_, _*_, _/_, _%_, _^_, _≤_, _<_}
+use Prim.Native.Nat.{ℕ, _+_, _-_, _*_, _%_, _≤_, _<_}
 use mathlib.Core.Path.{_≡_, refl, sym, ap, ap₂, _∙_}
 use mathlib.Core.Bool.{Bool, true, false, not, cond, _&&_, _||_, and-true, false≢true}
 use mathlib.Core.List.{List}
@@ -16,7 +16,7 @@ use Rattle.folds.specs.Folds.{when, countTo}
 use Rattle.folds.proofs.Numbers.{when-bound}
 use Rattle.folds.proofs.Folds.{countTo-next}
 use Rattle.board.specs.Layout.{memory, cacheSets}
-use Rattle.bitset.specs.Bits.{bit, member, wordsOf}
+use Rattle.bitset.specs.Bits.{member, wordsOf}
 use Rattle.bitset.proofs.Sets.{words-ext, wordsOf-cong, member-wordsOf}
 use Rattle.trace.specs.Traces.{Trace, useful}
 use Rattle.trace.specs.Slots.{loadAt, slotSet, loadsInto, lastSlot, usefulBefore, kept, slotMisses}
@@ -52,17 +52,16 @@ module _ (live : List ℕ) (mark : ℕ) where
           go true m = refl
           go false m = refl
 
--- the bit that the code reads says whether the mark's set is useful, and so whether its load misses
-module _ (live : List ℕ) (mark s : ℕ) (set : s ≡ markSet mark) where
-  pub was-useful : eqb (getD live (s / 64) 0 / 2 ^ (s % 64) % 2) 1 ≡ member live (markSet mark)
-  unfolding member bit
-  was-useful = ap (member live) set
+-- whether the mark's set is useful says whether its load misses
+module _ (live : List ℕ) (mark s : ℕ) (set : s ≡ markSet mark) {was : Bool} (read : was ≡ member live s) where
+  pub was-useful : was ≡ member live (markSet mark)
+  was-useful = read ∙ ap (member live) set
 
-  pub was-missed : (mark ≡ 0 → ⊥) → not (eqb (getD live (s / 64) 0 / 2 ^ (s % 64) % 2) 1) ≡ markMisses mark (member live)
+  pub was-missed : (mark ≡ 0 → ⊥) → not was ≡ markMisses mark (member live)
   was-missed loads = ap not was-useful ∙ sym (rw (ne-eqb mark 0 loads))
 
   -- and, where the load is not kept, whether the slot ends the use of its set
-  pub was-ended : markKept mark ≡ false → eqb (getD live (s / 64) 0 / 2 ^ (s % 64) % 2) 1 ≡ markEnds mark (member live)
+  pub was-ended : markKept mark ≡ false → was ≡ markEnds mark (member live)
   was-ended drop = was-useful ∙ sym (ap (λ (b : Bool). not b && member live (markSet mark)) drop)
 
 pub not-false : (b : Bool) → not b ≡ false → b ≡ true

@@ -1,4 +1,7 @@
 // The scan of a trace forwards, over its marks: the useful sets from slot to slot.
+use bitset::add_to;
+use bitset::is_in;
+use bitset::take_from;
 use folds::index;
 use folds::one_if;
 ghost use mathlib.Core.Path.{_≡_};
@@ -24,9 +27,7 @@ pub fn ends(live: &[u64], mark: u32) -> bool
     if mark % 2 == 0 {
         return false;
     }
-    let s = index((mark - 1) / 2);
-    let w = live[s / 64];
-    (w >> (s % 64)) % 2 == 1
+    is_in(live, index((mark - 1) / 2))
 }
 
 // Passes a slot: `live` has the useful sets before it, and then those after it.
@@ -42,15 +43,13 @@ pub fn pass_slot(live: &mut [u64], mark: u32) -> Passed
         };
     }
     let s = index((mark - 1) / 2);
-    let i = s / 64;
-    let w = live[i];
-    let was = (w >> (s % 64)) % 2 == 1;
+    let was = is_in(live, s);
     let missed = one_if(!was);
     if mark % 2 == 0 {
-        live[i] = (1u64 << (s % 64)) | w;
+        add_to(live, s);
         return Passed { missed, came: !was };
     }
-    live[i] = !(1u64 << (s % 64)) & w;
+    take_from(live, s);
     Passed {
         missed,
         came: false,

@@ -12,7 +12,7 @@ use Rattle.folds.specs.Folds.{when}
 use Rattle.bitset.specs.Bits.{member, wordsOf}
 use Rattle.board.specs.Layout.{kindOf}
 use Rattle.marks.specs.Marks.{markBy, withLoad, dataTouches}
-use Rattle.marks.proofs.Evicting.{join-none, touch-data}
+use Rattle.marks.proofs.Evicting.{join-none, touch-words, touch-data}
 use Rattle.marks.proofs.Marking.{read-load, skip-first, skip-mark}
 use Rattle.marks.proofs.mark_data.Statement.{statement}
 use Rattle.marks.proofs.mark_data.Tie as tie
@@ -50,7 +50,7 @@ writes c =
     let sets = a .cache .sets in (
       sym (ap (λ (b : Bool). when b 1) (eq-eqb (kindOf (a .w)) 2 (omega arith))),
       skip-first sets (now (a .first)) (a .w) (λ k. omega arith),
-      touched .touch .ensures ∙ ap (λ (k : ℕ). wordsOf (λ t. member (now (a .ecb)) t || eqb k t)) (s .ensures .0)
+      touched .add-to .ensures ∙ touch-words (now (a .ecb)) (s .result) ∙ ap (λ (k : ℕ). wordsOf (λ t. member (now (a .ecb)) t || eqb k t)) (s .ensures .0)
           ∙ touch-data (now (a .ecb)) sets (a .w) (λ k. omega arith),
       ap (set (now (a .marks)) (a .e)) (skip-mark sets (now (a .first)) (a .w) (λ k. omega arith)),
       omega arith,

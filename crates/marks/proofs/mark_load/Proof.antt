@@ -7,6 +7,7 @@ use denote.Ref.{now}
 use lib.Dec.{eqb}
 use lib.ListN.{set}
 use Rattle.bitset.specs.Bits.{member, wordsOf}
+use Rattle.marks.proofs.Evicting.{touch-words}
 use Rattle.marks.proofs.Marking.{load-first, load-mark}
 use Rattle.marks.proofs.mark_load.Statement.{statement}
 use Rattle.marks.proofs.mark_load.Tie as tie
@@ -17,7 +18,7 @@ returns c =
     let s = touched .before .before .set-of in
     let a = touched .before .before .before .before .before .args in (
       load-first (a .cache .sets) (now (a .first)) (a .block) (s .result) (s .ensures .0),
-      touched .touch .ensures ∙ ap (λ (k : ℕ). wordsOf (λ t. member (now (a .ecb)) t || eqb k t)) (s .ensures .0),
+      touched .add-to .ensures ∙ touch-words (now (a .ecb)) (s .result) ∙ ap (λ (k : ℕ). wordsOf (λ t. member (now (a .ecb)) t || eqb k t)) (s .ensures .0),
       ap (set (now (a .marks)) (a .e))
           (load-mark (a .cache .sets) (now (a .first)) (a .block) (s .result) (s .ensures .0) (c .one-if .result) (c .one-if .ensures .0)),
     )

@@ -19,9 +19,7 @@ dropped : tie.Need-returns-2
 dropped c =
     let s = c .before .index in
     let a = c .before .before .before .before .args in
-    was-ended (now (a .live)) (a .mark) (s .result) (s .ensures .0) (ne-eqb _ 0 (c .before .before .if1 .left))
+    was-ended (now (a .live)) (a .mark) (s .result) (s .ensures .0) (c .is-in .ensures) (ne-eqb _ 0 (c .before .before .if1 .left))
 
 pub ends-spec : {M : Type 1} → statement M
-ends-spec =
-    tie.close
-    (tie.spec kept (λ c. search needs) (λ c κs. search needs) (λ c. search needs) (λ c. search needs) (λ c. search needs) dropped)
+ends-spec = tie.close (tie.spec kept (λ c. search needs) (λ c κs. search needs) (λ c κs. search needs) dropped)

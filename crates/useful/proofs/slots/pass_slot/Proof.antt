@@ -8,7 +8,6 @@ use native.Mathlib.Omega.{arith}
 use denote.Ref.{now}
 use Rattle.folds.specs.Folds.{when}
 use Rattle.bitset.specs.Bits.{member}
-use Rattle.bitset.proofs.Sets.{insert-words, remove-words}
 use Rattle.marks.specs.Marks.{markKept, markMisses}
 use Rattle.useful.proofs.Passing.{pass-none, pass-keep, pass-drop, was-useful, was-missed, slot-adds, not-false}
 use Rattle.useful.proofs.slots.pass_slot.Statement.{statement}
@@ -28,40 +27,39 @@ none c =
 -- a load that is kept
 keeps : tie.Need-returns-2
 keeps c =
-    let top = c .before .before .before .before .before .before in
-    let a = top .args in
-    let loads = c .before .before .before .before .if1 .left in
-    let s = c .before .before .before .index in
-    let next =
-    insert-words (now (a .live)) (top .pre .1) (c .before .before .slice-known2 .given) (s .result) (omega arith)
-    ∙ pass-keep (now (a .live)) (a .mark) loads (s .result) (s .ensures .0) (eq-eqb _ 0 (c .if2 .taken)) in (
+    let turn = c .before .before .before .before in
+    let read = turn .before .before .is-in .ensures in
+    let s = turn .before .before .before .before .index in
+    let other = turn .before .before .before .before .before in
+    let loads = other .if1 .left in
+    let a = other .before .before .args in
+    let next = c .before .before .add-to .ensures ∙ pass-keep (now (a .live)) (a .mark) loads (s .result) (s .ensures .0) (eq-eqb _ 0 (turn .if2 .taken)) in (
       next,
-      c .before .one-if .ensures .0 ∙ ap (λ (b : Bool). when b 1) (was-missed (now (a .live)) (a .mark) (s .result) (s .ensures .0) loads),
+      turn .before .one-if .ensures .0 ∙ ap (λ (b : Bool). when b 1) (was-missed (now (a .live)) (a .mark) (s .result) (s .ensures .0) read loads),
       (λ e. slot-adds (now (a .live)) _ (a .mark) next
-          (λ k. sym (was-useful (now (a .live)) (a .mark) (s .result) (s .ensures .0)) ∙ not-false _ e)),
-      c .before .one-if .ensures .1,
+          (λ k. sym (was-useful (now (a .live)) (a .mark) (s .result) (s .ensures .0) read) ∙ not-false _ e)),
+      turn .before .one-if .ensures .1,
     )
 
 -- one that is not
 drops : tie.Need-returns-3
 drops c =
-    let top = c .before .before .before .before .before .before in
-    let a = top .args in
-    let loads = c .before .before .before .before .if1 .left in
-    let s = c .before .before .before .index in
-    let dropped : markKept (a .mark) ≡ false = ne-eqb _ 0 (c .if2 .left) in
-    let next =
-    remove-words (now (a .live)) (top .pre .1) (c .before .before .slice-known2 .given) (s .result) (omega arith)
-    ∙ pass-drop (now (a .live)) (a .mark) loads (s .result) (s .ensures .0) dropped in (
+    let turn = c .before .before .before .before in
+    let read = turn .before .before .is-in .ensures in
+    let s = turn .before .before .before .before .index in
+    let other = turn .before .before .before .before .before in
+    let loads = other .if1 .left in
+    let a = other .before .before .args in
+    let dropped : markKept (a .mark) ≡ false = ne-eqb _ 0 (turn .if2 .left) in
+    let next = c .before .before .take-from .ensures ∙ pass-drop (now (a .live)) (a .mark) loads (s .result) (s .ensures .0) dropped in (
       next,
-      c .before .one-if .ensures .0 ∙ ap (λ (b : Bool). when b 1) (was-missed (now (a .live)) (a .mark) (s .result) (s .ensures .0) loads),
+      turn .before .one-if .ensures .0 ∙ ap (λ (b : Bool). when b 1) (was-missed (now (a .live)) (a .mark) (s .result) (s .ensures .0) read loads),
       (λ e. slot-adds (now (a .live)) _ (a .mark) next (λ k. absurd (false≢true (sym dropped ∙ k)))),
-      c .before .one-if .ensures .1,
+      turn .before .one-if .ensures .1,
     )
 
 pub pass-slot-spec : {M : Type 1} → statement M
 pass-slot-spec =
     tie.close
-    (tie.spec none (λ c. search needs) (λ c κs. search needs) (λ c. search needs) (λ c. search needs) (λ c. search needs) (λ c κs. search needs)
-    (λ c. search needs) (λ c. search needs) (λ c. search needs) (λ c. search needs) keeps (λ c. search needs) (λ c. search needs) (λ c. search needs)
-    (λ c. search needs) drops)
+    (tie.spec none (λ c. search needs) (λ c κs. search needs) (λ c κs. search needs) (λ c κs. search needs) (λ c κs. search needs)
+    (λ c. search needs) keeps (λ c κs. search needs) (λ c. search needs) drops)
