@@ -4,3 +4,4 @@ pub mod Folds
 pub mod Searches
 pub mod Lists
 pub mod Loops
+pub mod Named

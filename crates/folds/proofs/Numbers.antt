@@ -5,7 +5,7 @@ use mathlib.Core.Bool.{Bool, true, false, _&&_}
 use mathlib.Core.Logic.{_⊎_, inl, inr, ⊎-elim}
 use mathlib.Core.Path.{_≡_, refl, sym, subst, _∙_}
 use native.Mathlib.Decide.{decLe, ℕ-discrete}
-use native.Mathlib.Nat.{le-refl, zero-mul, le-trans, le-of-suc-le-suc, eq-or-lt-of-le, lt-of-not-le, suc-mul, mul-suc, zero-lt-suc, div-zero, div-mul-le-self, le-div-iff-mul-le, div-lt-iff-lt-mul}
+use native.Mathlib.Nat.{le-refl, mul-le-mul, zero-mul, le-trans, le-of-suc-le-suc, eq-or-lt-of-le, lt-of-not-le, suc-mul, mul-suc, zero-lt-suc, div-zero, div-mul-le-self, le-div-iff-mul-le, div-lt-iff-lt-mul}
 use native.Mathlib.Omega.{arith}
 use lib.Dec.{eqb}
 use borrow.Author.Tests.{eq-eqb, ne-eqb}
@@ -26,15 +26,28 @@ eqb-iff a b c d to from = go (ℕ-discrete a b)
     go (yes e) = eq-eqb a b e ∙ sym (eq-eqb c d (to e))
     go (no n) = ne-eqb a b n ∙ sym (ne-eqb c d (λ e. n (from e)))
 
+-- a divisor that is no longer, and is not 0 where the other is not
+pub record Shorter (S T : ℕ) : Type 0 where
+  pub le : S ≤ T
+  pub positive : 0 < T → 0 < S
+
+pub shorter-same : (T : ℕ) → Shorter T T
+shorter-same T = record { le = le-refl T; positive = λ h. h }
+
+-- a quotient rises with what is divided, and when the divisor falls
+pub div-rise : {S T : ℕ} → Shorter S T → (a b : ℕ) → a ≤ b → a / T ≤ b / S
+div-rise {S} {T} short a b h = go T short
+  where
+    go : (T : ℕ) → Shorter S T → a / T ≤ b / S
+    go zero short = omega (arith, div-zero a)
+    go (suc T) short =
+        le-div-iff-mul-le (short .positive (zero-lt-suc T)) .1
+        (le-trans (mul-le-mul (le-refl (a / suc T)) (short .le)) (le-trans (div-mul-le-self a (suc T)) h))
+
 pub div-mono : (k a b : ℕ) → a ≤ b → a / k ≤ b / k
-div-mono zero a b h = omega (arith, div-zero a, div-zero b)
-div-mono (suc k) a b h = le-div-iff-mul-le (zero-lt-suc k) .1 (le-trans (div-mul-le-self a (suc k)) h)
+div-mono k = div-rise (shorter-same k)
 
 -- ---- Laws of `ceilDiv`: ceil(a/b) is the least k with a ≤ k × b
-
-pub ceilDiv-mono : (b a a' : ℕ) → a ≤ a' → ceilDiv a b ≤ ceilDiv a' b
-unfolding ceilDiv
-ceilDiv-mono b a a' h = div-mono b (a + (b - 1)) (a' + (b - 1)) (omega arith)
 
 pub ceilDiv-least : {a k b : ℕ} → 0 < b → a ≤ k * b → ceilDiv a b ≤ k
 unfolding ceilDiv
@@ -44,6 +57,22 @@ pub ceilDiv-covers : (a : ℕ) {b : ℕ} → 0 < b → a ≤ ceilDiv a b * b
 unfolding ceilDiv
 ceilDiv-covers a {b} p =
     omega (arith, suc-mul ((a + (b - 1)) / b) b, div-lt-iff-lt-mul {x = a + (b - 1)} {y = suc ((a + (b - 1)) / b)} p .0 (le-refl _))
+
+ceilDiv-none : (a : ℕ) → ceilDiv a 0 ≤ 0
+unfolding ceilDiv
+ceilDiv-none a = omega (arith, div-zero (a + (0 - 1)))
+
+pub ceilDiv-rise : {S T : ℕ} → Shorter S T → (a a' : ℕ) → a ≤ a' → ceilDiv a T ≤ ceilDiv a' S
+ceilDiv-rise {S} {T} short a a' h = go T short
+  where
+    go : (T : ℕ) → Shorter S T → ceilDiv a T ≤ ceilDiv a' S
+    go zero short = le-trans (ceilDiv-none a) zero-le
+    go (suc T) short =
+        ceilDiv-least {a = a} {k = ceilDiv a' S} {b = suc T} (zero-lt-suc T)
+        (le-trans h (le-trans (ceilDiv-covers a' (short .positive (zero-lt-suc T))) (mul-le-mul (le-refl (ceilDiv a' S)) (short .le))))
+
+pub ceilDiv-mono : (b a a' : ℕ) → a ≤ a' → ceilDiv a b ≤ ceilDiv a' b
+ceilDiv-mono b = ceilDiv-rise (shorter-same b)
 
 pub ceilDiv-self : (a b : ℕ) → ceilDiv a b ≤ a
 unfolding ceilDiv

@@ -3,6 +3,7 @@ pub mod Steps
 pub mod Ascending
 pub mod Settling
 pub mod Choices
+pub mod Lighter
 pub mod Looping
 pub mod Orders
 pub mod Visits

@@ -98,9 +98,19 @@ pub record LeastChoice (S : System) (R : List ℕ) : Type 0 where
 
 -- ---- what the laws of passes ask for, and what they give to the sums
 
+-- at times that are no smaller, the sums of S' are no smaller than those of S
+abbrev pub Raises : System → System → Type 0
+Raises S S' = (R R' : List ℕ) → Below (S .count) R R' → (i : ℕ) → i < S .count → S .sum R i ≤ S' .sum R' i
+
 -- the sums never fall when times rise
 abbrev pub Monotone : System → Type 0
-Monotone S = (R R' : List ℕ) → Below (S .count) R R' → (i : ℕ) → i < S .count → S .sum R i ≤ S .sum R' i
+Monotone S = Raises S S
+
+-- S has the tasks and bounds of S', and sums that are no larger
+pub record Lighter (S S' : System) : Type 0 where
+  pub count : S .count ≡ S' .count
+  pub bound : (i : ℕ) → i < S .count → S .bound i ≡ S' .bound i
+  pub sum : Raises S S'
 
 -- no time is past its task's bound + 1
 abbrev pub Capped : System → List ℕ → Type 0
