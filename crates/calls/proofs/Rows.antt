@@ -2,7 +2,7 @@
 -- Assumes nothing.
 use Prim.Native.Nat.{ℕ}
 use mathlib.Core.Bool.{Bool}
-use mathlib.Core.Path.{_≡_, sym, ap, ap₂, _∙_}
+use mathlib.Core.Path.{_≡_, refl, sym, ap, ap₂, _∙_}
 use lib.Dec.{leb}
 use Rattle.board.specs.Refusals.{refuseUnless, firstBad, refuseFirst, _orElse_}
 use Rattle.board.specs.declared.Verdict.{Verdict}
@@ -14,6 +14,11 @@ module _ (u v : Verdict) where
 
   pub orElse-refused : {number place : ℕ} → u ≡ Refused number place → Refused number place ≡ (u orElse v)
   orElse-refused e = ap (λ (w : Verdict). w orElse v) (sym e)
+
+-- the rows of a board, and then rows that are known where it passes
+pub board-then : {r v u w : Verdict} (x : Verdict) → r ≡ (v orElse u) → v ≡ x → (v ≡ Passed → u ≡ w) → r ≡ (x orElse w)
+board-then {v = Passed} {u} {w} x e same rest = e ∙ rest refl ∙ ap (λ (y : Verdict). y orElse w) same
+board-then {v = Refused number place} {u} {w} x e same rest = e ∙ ap (λ (y : Verdict). y orElse w) same
 
 -- two rows by their values
 pub orElse-both : {r u u' v v' : Verdict} → r ≡ (u orElse v) → u ≡ u' → v ≡ v' → r ≡ (u' orElse v')

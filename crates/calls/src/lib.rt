@@ -7,47 +7,66 @@ ghost use mathlib.Core.Path.{_≡_};
 ghost use Prim.Native.Nat.{_≤_};
 ghost use lib.ListN.{length};
 ghost use Rattle.board.specs.Layout.{tasks};
-ghost use Rattle.board.specs.Refusals.{firstBad, refuseFirst, _orElse_};
+ghost use Rattle.board.specs.Refusals.{firstBad, refuseFirst, refusalOf, _orElse_};
 ghost use Rattle.board.specs.Sound.{Sound};
+ghost use Rattle.board.specs.declared.Verdict.the-variants.{Passed};
 ghost use Rattle.calls.specs.Refusals.{timesRow, timeOk, figuresRefusal, overheadRefusal, weighRefusal, analyseRefusal};
+
+// What a board's own rows say, and its tasks: 0 where one of them refuses.
+struct Checked {
+    verdict: Verdict,
+    tasks: usize,
+}
+
+fn board_rows(board: &[u32]) -> Checked
+    ensures { λ r. ⌜ (r .verdict ≡ refusalOf (now (board .entry))) × (r .verdict ≡ Passed → r .tasks ≡ tasks (now (board .entry))) × (r .tasks ≤ 64) ⌝ }
+{
+    match board::check(board) {
+        Verdict::Passed => Checked {
+            verdict: Verdict::Passed,
+            tasks: index(board::fields::tasks(board)),
+        },
+        Verdict::Refused(number, place) => Checked {
+            verdict: Verdict::Refused(number, place),
+            tasks: 0,
+        },
+    }
+}
 
 // What `figures` checks, its table being of this many records.
 pub fn check_figures(board: &[u32], room: usize) -> Verdict
     ensures { λ r. ⌜ r ≡ figuresRefusal (now (board .entry)) room ⌝ }
 {
-    match board::check(board) {
-        Verdict::Passed => {
-            let n = index(board::fields::tasks(board));
-            check_that(13, n <= room, room)
-        }
-        Verdict::Refused(number, place) => Verdict::Refused(number, place),
-    }
+    let c = board_rows(board);
+    let n = c.tasks;
+    let v = c.verdict;
+    or_else(v, check_that(13, n <= room, room))
 }
 
 // What `overhead` checks.
 pub fn check_overhead(board: &[u32], i: usize, j: usize) -> Verdict
     ensures { λ r. ⌜ r ≡ overheadRefusal (now (board .entry)) i j ⌝ }
 {
-    match board::check(board) {
-        Verdict::Passed => {
-            let n = index(board::fields::tasks(board));
-            or_else(
-                check_that(10, (1 <= i) & (i <= n), i),
-                check_that(10, (1 <= j) & (j <= n), j),
-            )
-        }
-        Verdict::Refused(number, place) => Verdict::Refused(number, place),
-    }
+    let c = board_rows(board);
+    let n = c.tasks;
+    let v = c.verdict;
+    or_else(
+        v,
+        or_else(
+            check_that(10, (1 <= i) & (i <= n), i),
+            check_that(10, (1 <= j) & (j <= n), j),
+        ),
+    )
 }
 
-// The first of n times that is above D + 1, and n where none is.
+// The first of n times that is above its bound + 1, and n where none is.
 fn first_over(board: &[u32], times: &[u32], n: usize) -> usize
     requires { ⌜ (Sound (now board)) × (n ≡ tasks (now board)) × (n ≤ length (now times)) ⌝ }
     ensures { λ r. ⌜ r ≡ firstBad (timeOk (now (board .entry)) (now (times .entry))) 0 n ⌝ }
 {
     let mut k = 0;
     while k < n {
-        let last = board::fields::deadline(board, k);
+        let last = sums::rows::bound(board, k);
         if last + 1 < times[k] {
             return k;
         }
@@ -90,17 +109,17 @@ pub fn check_weigh(board: &[u32], times: &[u32], i: usize) -> Verdict
 pub fn check_analyse(board: &[u32], times: usize, scratch: usize, room: usize) -> Verdict
     ensures { λ r. ⌜ r ≡ analyseRefusal (now (board .entry)) times scratch room ⌝ }
 {
-    match board::check(board) {
-        Verdict::Passed => {
-            let n = index(board::fields::tasks(board));
+    let c = board_rows(board);
+    let n = c.tasks;
+    let v = c.verdict;
+    or_else(
+        v,
+        or_else(
+            check_that(11, n <= times, times),
             or_else(
-                check_that(11, n <= times, times),
-                or_else(
-                    check_that(12, n * n + 4 * n <= scratch, scratch),
-                    check_that(13, n <= room, room),
-                ),
-            )
-        }
-        Verdict::Refused(number, place) => Verdict::Refused(number, place),
-    }
+                check_that(12, n * n + 4 * n <= scratch, scratch),
+                check_that(13, n <= room, room),
+            ),
+        ),
+    )
 }

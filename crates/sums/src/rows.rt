@@ -6,6 +6,7 @@ ghost use lib.ListN.{getD};
 ghost use Rattle.board.specs.Layout as at;
 ghost use Rattle.board.specs.Sound.{Sound};
 ghost use Rattle.figures.specs.Figures.{taskPD};
+ghost use Rattle.sums.specs.Sums as spec;
 ghost use Rattle.sums.specs.Sums.{memoryDemand};
 ghost use Rattle.sums.specs.Inputs.{Holds, Times};
 
@@ -23,6 +24,14 @@ pub fn demand(board: &[u32], row: &[u32], j: usize, k: usize) -> u64
     ensures { λ r. ⌜ (r ≡ memoryDemand (now (board .entry)) j k) × (r ≤ 2 ^ 12) ⌝ }
 {
     wide(row[k])
+}
+
+// The largest time of task k that is not late.
+pub fn bound(board: &[u32], k: usize) -> u32
+    requires { ⌜ (Sound (now board)) × (k < at.tasks (now board)) ⌝ }
+    ensures { λ r. ⌜ (r ≡ spec.bound (now (board .entry)) k) × (r ≤ 268435455) ⌝ }
+{
+    board::fields::deadline(board, k)
 }
 
 // The time of task k.

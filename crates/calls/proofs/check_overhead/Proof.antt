@@ -1,25 +1,13 @@
 -- `calls::check_overhead` meets its contract: the rows of its board, and then its own.
 -- Assumes nothing.
 use Prim.Native.Nat.{ℕ}
-use mathlib.Core.Path.{_≡_, sym, ap, _∙_}
+use mathlib.Core.Path.{_≡_, ap, _∙_}
 use borrow.Author.Needs.{needs}
-use Rattle.board.specs.Refusals.{within, refuseUnless, refusalOf}
-use Rattle.board.specs.declared.Verdict.the-variants.{Passed}
-use Rattle.board.proofs.Sound.{sound}
+use Rattle.board.specs.Refusals.{within, refuseUnless}
 use Rattle.calls.specs.Refusals.{overheadRefusal}
-use Rattle.calls.proofs.Rows.{orElse-next, orElse-refused, orElse-both}
+use Rattle.calls.proofs.Rows.{orElse-both, board-then}
 use Rattle.calls.proofs.check_overhead.Statement.{statement}
 use Rattle.calls.proofs.check_overhead.Tie as tie
-
--- where the board has passed its rows
-abbrev Passing : Type 0
-Passing = tie.After-enum-told
-
-abbrev start-of : Passing → tie.Start
-start-of p = p .before .before .before .before
-
-passed : (p : Passing) → refusalOf (start-of p .args .board .now) ≡ Passed
-passed p = sym (p .before .before .check .ensures) ∙ p .enum-told .given .1
 
 pub check-overhead-spec : {M : Type 1} → statement M
 unfolding overheadRefusal
@@ -27,19 +15,15 @@ check-overhead-spec =
     tie.close
     (tie.spec
     (λ c κs. search needs)
-    (λ c. search needs)
-    (λ c κs. sound (start-of c .args .board .now) (passed c))
     (λ c κs. search needs)
     (λ c κs. search needs)
     (λ c κs. search needs)
     (λ c κs. search needs)
-    (λ c. search needs)
     (λ c.
-    let p = c .before .before .before .before .before in
-    let a = start-of p .args in
-    let n = c .before .before .before .index .ensures .0 ∙ c .before .before .before .before .tasks .ensures .0 in
-    orElse-both (c .or-else .ensures)
-    (c .before .before .check-that .ensures ∙ ap (λ (m : ℕ). refuseUnless 10 (within 1 m (a .i)) (a .i)) n)
-    (c .before .check-that2 .ensures ∙ ap (λ (m : ℕ). refuseUnless 10 (within 1 m (a .j)) (a .j)) n)
-    ∙ orElse-next _ _ (passed p))
-    (λ c. orElse-refused _ _ (sym (c .before .before .before .check .ensures) ∙ c .before .number .given .1)))
+    let own = c .before .before .before .before .board-rows .ensures in
+    let a = c .before .before .before .before .before .before .args in
+    board-then _ (c .or-else2 .ensures) (own .0)
+    (λ p.
+    orElse-both (c .before .or-else .ensures)
+    (c .before .before .before .check-that .ensures ∙ ap (λ (m : ℕ). refuseUnless 10 (within 1 m (a .i)) (a .i)) (own .1 p))
+    (c .before .before .check-that2 .ensures ∙ ap (λ (m : ℕ). refuseUnless 10 (within 1 m (a .j)) (a .j)) (own .1 p)))))

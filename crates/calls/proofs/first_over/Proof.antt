@@ -6,7 +6,7 @@ use native.Mathlib.Omega.{arith}
 use lib.ListN.{getD}
 use borrow.Author.Needs.{needs}
 use borrow.Author.Tests.{le-leb, lt-leb}
-use Rattle.board.specs.Layout.{deadline}
+use Rattle.sums.specs.Sums.{bound}
 use Rattle.board.specs.Refusals.{firstBad}
 use Rattle.board.proofs.Searches.{firstBad-pass, firstBad-stop, firstBad-end}
 use Rattle.calls.specs.Refusals.{timeOk}
@@ -33,13 +33,13 @@ first-over-spec =
     (λ c.
     let a = c .before .before .before .before .before .before .before .args in
     let l = c .before .before .before .before .loop in
-    let over : deadline (a .board .now) (l .k) + 1 < getD (a .times .now) (l .k) 0 = omega arith in
+    let over : bound (a .board .now) (l .k) + 1 < getD (a .times .now) (l .k) 0 = omega arith in
     firstBad-stop (timeOk (a .board .now) (a .times .now)) (l .k) (a .n) (omega arith) (lt-leb _ _ over) ∙ l .inv)
     (λ c. search needs)
     (λ c. search needs)
     (λ c.
     let a = c .before .before .before .before .before .before .before .args in
     let l = c .before .before .before .before .loop in
-    let within : getD (a .times .now) (l .k) 0 ≤ deadline (a .board .now) (l .k) + 1 = omega arith in
+    let within : getD (a .times .now) (l .k) 0 ≤ bound (a .board .now) (l .k) + 1 = omega arith in
     firstBad-pass (timeOk (a .board .now) (a .times .now)) (l .k) (a .n) (omega arith) (le-leb _ _ within) ∙ l .inv)
     (λ c. firstBad-end _ _ _ (search needs) ∙ c .before .loop .inv))
