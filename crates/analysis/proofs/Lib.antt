@@ -3,5 +3,6 @@ pub mod Demand
 pub mod Table
 pub mod Steps
 pub mod Loans
+pub mod Extras
 pub mod Filling
 pub mod Shell

@@ -1,6 +1,5 @@
 -- What a walk lends for the length of a call, at a lifetime κ′ of its own, and takes back once κ′ is over.
 --     lent-again, comes-back     a `&κ mut [T]` is lent as `&κ′ mut [T]`; it comes back at the last list of the callee
---     lent-shared, unshared      a `&κ mut [T]` is lent as `&κ′ [T]`; it comes back as it was
 --     zero-array, array-fits     an array of n zeros, and that an array's machine value has its type
 --     local-in, local-out        an array in a local, as what can be lent, and back, as room that can be freed
 -- Assumes `Given`.
@@ -24,11 +23,10 @@ use denote.Memory.{cellAt, partAt, partOf}
 use denote.Array.{Array, arrayVal, array-tells, array-lawful, array-repeat}
 use denote.Plain.{UInt, uint-vals, uint-tells, uint-makes, uint-copy, uint-lawful}
 use denote.Ref.{RefT, at-last}
-use denote.Slice.{ShrSlice, MutSlice, finally}
+use denote.Slice.{MutSlice, finally}
 use denote.Steps.{peeks, owned}
 use borrow.Table.Owned as bare
 use borrow.Rule.Slice.Lend.{keptF, sl-relend, sl-relent-backˡ}
-use borrow.Rule.Slice.Reshare.{keptS, sl-reshare, sl-reshare-back}
 use Rattle.analysis.proofs.Steps.{val}
 
 -- a reference under another name
@@ -39,22 +37,13 @@ module _ {M : Type 1} (𝓤 : URA M) (H : Heap 𝓤) (A : Atoms 𝓤) (W : Given
   abbrev Mut : Lifetime → Lft → RefT (List (R .Denot)) → Fml
   Mut n k x = MutSlice n k R .own x (val x ∷ [])
 
-  abbrev Shr : Lifetime → Lft → RefT (List (R .Denot)) → Fml
-  Shr n k x = ShrSlice n k R .own x (val x ∷ [])
-
   module _ (x : RefT (List (R .Denot))) where
     -- what the lender keeps
     abbrev pub KeptMut : GName → Fml
     KeptMut γ = keptF R κ q κ′ (x .name) γ (x .now) (x .ptr .0) (x .ptr .1)
 
-    abbrev pub KeptShr : Fml
-    KeptShr = keptS R κ q κ′ (x .name) (x .now) (x .ptr .0) (x .ptr .1)
-
     abbrev LentMut : GName → SProp 𝓤
     LentMut γ = sep 𝓤 (sem 𝓤 H A (Mut ℓ′ κ′ (renamed γ x))) (sem 𝓤 H A (KeptMut γ))
-
-    abbrev LentShr : GName → SProp 𝓤
-    LentShr γ = sep 𝓤 (sem 𝓤 H A (Shr ℓ′ κ′ (renamed γ x))) (sem 𝓤 H A KeptShr)
 
     pub lent-again : ent 𝓤 (sep 𝓤 (sem 𝓤 H A (Mut ℓ κ x)) (A .lft κ q)) (H .⇛ (ex 𝓤 LentMut))
     lent-again =
@@ -70,20 +59,6 @@ module _ {M : Type 1} (𝓤 : URA M) (H : Heap 𝓤) (A : Atoms 𝓤) (W : Given
         use3 W (later (given (length ys ≡ length (x .now)) (‵ (bare.MutSlice erased κ R .own (at-last x ys)) ⊛ ‵ (flft κ q))))
         (sl-relent-backˡ 𝓤 H A W R κ q κ′ (x .ptr .0) (x .ptr .1) (x .name) γ (x .now) ys) $ await ! tt $ learn ! (λ e.
         split ! $ fsplit ! $ feqI ! (List Val) (val (at-last x ys) ∷ []) (val (at-last x ys) ∷ []) refl $ fjoin ! $ fjoin ! $ at-once ! $ done !)
-
-    pub lent-shared : ent 𝓤 (sep 𝓤 (sem 𝓤 H A (Mut ℓ κ x)) (A .lft κ q)) (H .⇛ (ex 𝓤 LentShr))
-    lent-shared =
-        qed W (‵ (Mut ℓ κ x) ∷ ‵ (flft κ q) ∷ []) ∵ updating ! $ fsplit ! $ fsplit ! $ drop ! $ fjoin ! $
-        use2 W (later (some (λ (γ : GName). ‵ (bare.ShrSlice erased κ′ R .own (renamed γ x)) ⊛ ‵ KeptShr)))
-        (sl-reshare 𝓤 H A W R κ q κ′ (x .ptr .0) (x .ptr .1) (x .name) (x .now)) $ await ! tt $ pick ! (λ γ.
-        split ! $ fsplit ! $ feqI ! (List Val) (val x ∷ []) (val x ∷ []) refl $ fjoin ! $ fjoin ! $ at-once ! $ show ! LentShr γ $ done !)
-
-    pub unshared : ent 𝓤 (sep 𝓤 (A .dead κ′) (sem 𝓤 H A KeptShr)) (H .⇛ (sep 𝓤 (sem 𝓤 H A (Mut ℓ κ x)) (A .lft κ q)))
-    unshared =
-        qed W (‵ (fdead κ′) ∷ ‵ KeptShr ∷ []) ∵ updating ! $
-        use2 W (later (‵ (bare.MutSlice erased κ R .own x) ⊛ ‵ (flft κ q)))
-        (sl-reshare-back 𝓤 H A W R κ q κ′ (x .ptr .0) (x .ptr .1) (x .name) (x .now)) $ await ! tt $
-        split ! $ fsplit ! $ feqI ! (List Val) (val x ∷ []) (val x ∷ []) refl $ fjoin ! $ fjoin ! $ at-once ! $ done !
 
 -- an array of n numbers
 module _ {M : Type 1} (𝓤 : URA M) (H : Heap 𝓤) (A : Atoms 𝓤) (W : Given 𝓤 H A) (w : Width) (n : ℕ) where

@@ -1,74 +1,81 @@
--- The two halves of `analyse`, and how they join.
+-- A call that its checks gave a verdict: what is known of it once its figures are worked out, and of its scratch in the end.
 -- Assumes nothing.
-use Prim.Native.Nat.{ℕ}
+use Prim.Native.Nat.{ℕ, _+_, _*_, _≤_, _<_}
 use mathlib.Core.List.{List}
 use mathlib.Core.Path.{_≡_, refl, sym, ap, subst, _∙_}
 use native.Mathlib.Omega.{arith}
-use lib.ListN.{length}
+use lib.ListN.{length, getD}
+use Rattle.folds.specs.Folds.{fillTo}
+use Rattle.folds.proofs.Lists.{length-fillTo, fillTo-below}
 use Rattle.board.specs.Layout.{tasks}
 use Rattle.board.specs.declared.Verdict.{Verdict}
 use Rattle.board.specs.declared.Verdict.the-variants.{Passed, Refused}
 use Rattle.figures.specs.Survey.{Held}
 use Rattle.figures.proofs.Fillable.{fillable-tasks, fillable-none}
-use Rattle.scratch.specs.Scratch.{Prepared}
+use Rattle.scratch.specs.Scratch.{Room, Prepared}
 use Rattle.calls.specs.Accepted.{AnalyseTaken}
 use Rattle.answers.specs.Answers.{ScratchAfter}
-use Rattle.answers.specs.Begun.{Begun, Concludable}
-use Rattle.answers.proofs.Outcomes.{tasks-records, none-records}
-
--- as many words, whatever the verdict is
-same-size : (old new : List ℕ) (v : Verdict) → ScratchAfter v old new → length new ≡ length old
-same-size old new Passed after = after
-same-size old new (Refused number place) after = ap length after
+use Rattle.answers.specs.Begun.{Begun}
+use Rattle.answers.proofs.Outcomes.{tasks-records, none-records, room-for}
 
 -- a refusal is no pass
 abbrev passes : Verdict → ℕ
 passes Passed = 1
 passes (Refused number place) = 0
 
-refused-not-passed : {number place : ℕ} → Refused number place ≡ Passed → ⊥
+pub refused-not-passed : {number place : ℕ} → Refused number place ≡ Passed → ⊥
 refused-not-passed e = let none : _≡_ {A = ℕ} 0 1 = ap passes e in omega arith
 
-module _ {b : List ℕ} {v : Verdict} {room : ℕ} {old : List ℕ} where
-  pub begun-tasks : {times n : ℕ} {new sets : List ℕ} → v ≡ Passed → AnalyseTaken b times (length old) room → n ≡ tasks b
-      → (Prepared b n new) × (length new ≡ length old) × (Held b n n new sets) → Begun b v room n old new sets
-  begun-tasks {n = n} {new = new} e taken all made =
+-- the figures are held by a copy of the first 4n words
+held-copied : {b : List ℕ} {n : ℕ} {from to sets : List ℕ} (old : List ℕ) → 4 * n ≤ length old → to ≡ fillTo (λ k. getD from k 0) (4 * n) old
+    → Held b n n from sets → Held b n n to sets
+held-copied {n = n} {from = from} {to = to} old room copied held =
+    record {
+      pd = λ k h. word (2 * n + k) (omega arith) ∙ held .pd k h;
+      md = λ k h. word (3 * n + k) (omega arith) ∙ held .md k h;
+      ecb = held .ecb;
+    }
+  where
+    word : (k : ℕ) → k < 4 * n → getD to k 0 ≡ getD from k 0
+    word k h = ap (λ (w : List ℕ). getD w k 0) copied ∙ fillTo-below (λ j. getD from j 0) old 0 (4 * n) k h (omega arith)
+
+module _ {b : List ℕ} {v : Verdict} {old : List ℕ} where
+  pub begun-tasks : {n : ℕ} {new words sets : List ℕ} (free : List ℕ) → v ≡ Passed → n ≡ tasks b
+      → (Prepared b n new) × (length new ≡ length old) × (Held b n n new sets) → 256 ≤ length free → words ≡ fillTo (λ k. getD new k 0) (4 * n) free
+      → Begun (Prepared b (tasks b)) b v n old new words sets
+  begun-tasks {n = n} {new = new} {words = words} free e all made room copied =
+      let few : 4 * n ≤ 256 = omega (arith, all, made .0 .room .sound .tasks) in
+      let size : length words ≡ length free = ap length copied ∙ length-fillTo (λ k. getD new k 0) free (4 * n) in
       record {
         count = tasks-records b e all;
-        table = omega (arith, all, taken .table);
-        fillable = fillable-tasks (taken .analysable .sound) all (omega (arith, made .0 .room .words)) (made .2);
+        fillable = fillable-tasks (made .0 .room .sound) all (omega (arith, few, size, room)) (held-copied free (omega arith) copied (made .2));
         after = subst (λ (w : Verdict). ScratchAfter w old new) (sym e) (made .1);
-        prepared = λ _. made .0;
+        ready = λ _. subst (λ (m : ℕ). Prepared b m new) all (made .0);
       }
 
-  pub begun-none : {number place : ℕ} {sets : List ℕ} → v ≡ Refused number place → Begun b v room 0 old old sets
+  pub begun-none : {Ready : List ℕ → Type 0} {number place : ℕ} {words sets : List ℕ} → v ≡ Refused number place → Begun Ready b v 0 old old words sets
   begun-none e =
       record {
         count = none-records b e;
-        table = omega arith;
         fillable = fillable-none;
         after = subst (λ (w : Verdict). ScratchAfter w old old) (sym e) refl;
-        prepared = λ passed. absurd (refused-not-passed (sym e ∙ passed));
+        ready = λ passed. absurd (refused-not-passed (sym e ∙ passed));
       }
 
--- the verdict is by lengths: after the first half it is what it was before, for the second
-module _ {b : List ℕ} (Refuse : ℕ → Verdict) {room n : ℕ} {old mid sets : List ℕ} (begun : Begun b (Refuse (length old)) room n old mid sets) where
-  begun-size : length mid ≡ length old
-  begun-size = same-size old mid (Refuse (length old)) (begun .after)
+-- ---- of a call that its checks let through, the scratch has room for what `begin` lays out
 
-  pub concludable : Concludable b (Refuse (length mid)) n mid
-  concludable =
-      subst (λ (k : ℕ). Concludable b (Refuse k) n mid) (sym begun-size) (record { count = begun .count; prepared = begun .prepared })
+pub room-taken : {b : List ℕ} {times room : ℕ} (w : List ℕ) → AnalyseTaken b times (length w) room → Room b (tasks b) w
+room-taken w taken = room-for w (taken .analysable .sound) refl (taken .analysable .scratchRoom)
 
-  both-after : (new : List ℕ) (v : Verdict) → ScratchAfter v old mid → ScratchAfter v mid new → ScratchAfter v old new
-  both-after new Passed e h = h ∙ e
-  both-after new (Refused number place) e h = h ∙ e
+-- ---- the answer, by the verdict that the contract names
 
-  after-both : (new : List ℕ) → ScratchAfter (Refuse (length mid)) mid new → ScratchAfter (Refuse (length old)) old new
-  after-both new h =
-      both-after new (Refuse (length old)) (begun .after) (subst (λ (k : ℕ). ScratchAfter (Refuse k) mid new) begun-size h)
+-- the scratch, by what is left in the middle
+pub after-both : (v : Verdict) (old mid new : List ℕ) → ScratchAfter v old mid → ScratchAfter v mid new → ScratchAfter v old new
+after-both Passed old mid new e h = h ∙ e
+after-both (Refused number place) old mid new e h = h ∙ e
 
-  -- the answer r, what else is known of it, and the scratch
-  pub joined : {X : Type 0} (Give : ℕ → X) {r : X} {P : Type 0} (new : List ℕ) → (r ≡ Give (length mid)) × (P × ScratchAfter (Refuse (length mid)) mid new)
-      → (r ≡ Give (length old)) × (P × ScratchAfter (Refuse (length old)) old new)
-  joined Give new h = (h .0 ∙ ap Give begun-size, (h .1 .0, after-both new (h .1 .1)))
+-- the answer r, what else is known of it, and the scratch
+module _ {Ready : List ℕ → Type 0} {b : List ℕ} {v v' : Verdict} {n : ℕ} {old mid words sets : List ℕ} (judged : v ≡ v') (begun : Begun Ready b v n old mid words sets) where
+  pub joined : {X : Type 0} (Give : Verdict → X) {r : X} {P : Type 0} (new : List ℕ) → (r ≡ Give v) × (P × ScratchAfter v mid new)
+      → (r ≡ Give v') × (P × ScratchAfter v' old new)
+  joined Give new h = (h .0 ∙ ap Give judged, (h .1 .0, subst (λ (w : Verdict). ScratchAfter w old new) judged (after-both v old mid new (begun .after) (h .1 .1))))

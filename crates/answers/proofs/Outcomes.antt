@@ -14,7 +14,7 @@ use Rattle.scratch.specs.Scratch.{Room}
 use Rattle.answers.specs.declared.Answer.{Answer}
 use Rattle.answers.specs.declared.Answer.the-variants.{Refused as Answer·Refused}
 use Rattle.answers.specs.declared.Outcome.the-variants.{Value, Refused as Outcome·Refused}
-use Rattle.answers.specs.Answers.{unlessRefused, answerBy, timesAfter, ScratchAfter}
+use Rattle.answers.specs.Answers.{system, unlessRefused, answerFor, timesLeft, ScratchAfter}
 use Rattle.answers.specs.Concluded.{Concluded}
 use Rattle.answers.specs.Records.{recordsOf}
 
@@ -29,20 +29,22 @@ module _ {v : Verdict} (value : ℕ) where
 
 -- ---- the records that are filled: one a task, or none
 
--- where there is one, nothing is refused
-pub records-passed : (b : List ℕ) (n : ℕ) (v : Verdict) → n ≡ recordsOf v b → 0 < n → v ≡ Passed
-records-passed b n Passed e h = refl
-records-passed b n (Refused number place) e h = absurd (omega arith)
-
 module _ (b : List ℕ) {v : Verdict} where
-  pub records-tasks : {n : ℕ} → v ≡ Passed → n ≡ recordsOf v b → n ≡ tasks b
-  records-tasks e h = h ∙ ap (λ (w : Verdict). recordsOf w b) e
-
   pub tasks-records : {n : ℕ} → v ≡ Passed → n ≡ tasks b → n ≡ recordsOf v b
   tasks-records e h = h ∙ ap (λ (w : Verdict). recordsOf w b) (sym e)
 
   pub none-records : {number place : ℕ} → v ≡ Refused number place → 0 ≡ recordsOf v b
   none-records e = ap (λ (w : Verdict). recordsOf w b) (sym e)
+
+-- the table has room for them, where it has for a call that is let through
+pub records-room : (b : List ℕ) (v : Verdict) {n room : ℕ} → n ≡ recordsOf v b → (v ≡ Passed → tasks b ≤ room) → n ≤ room
+records-room b Passed e fits = omega (arith, e, fits refl)
+records-room b (Refused number place) e fits = omega arith
+
+-- their number is the value that `figures` answers
+pub records-value : (b : List ℕ) (v : Verdict) {n : ℕ} → n ≡ recordsOf v b → unlessRefused v n ≡ unlessRefused v (tasks b)
+records-value b Passed e = ap (λ (k : ℕ). unlessRefused Passed k) e
+records-value b (Refused number place) e = refl
 
 -- ---- a scratch of so many words has room for the tasks
 
@@ -55,15 +57,15 @@ most-words {b} s = omega (arith, mul-le-mul (s .tasks .1) (s .tasks .1))
 
 -- ---- analyse: the answer, the times buffer and the scratch
 
-abbrev pub Leaves : List ℕ → Verdict → List ℕ → List ℕ → Answer → List ℕ → List ℕ → Type 0
-Leaves b v times scratch r times' scratch' = (r ≡ answerBy v b) × ((times' ≡ timesAfter b r times) × ScratchAfter v scratch scratch')
+abbrev pub Leaves : List ℕ → (List ℕ → List ℕ) → Verdict → List ℕ → List ℕ → Answer → List ℕ → List ℕ → Type 0
+Leaves b step v times scratch r times' scratch' = (r ≡ answerFor v b step) × ((times' ≡ timesLeft (system b) step r times) × ScratchAfter v scratch scratch')
 
-module _ (b times scratch : List ℕ) {v : Verdict} where
-  pub leaves-refused : {number place : ℕ} → v ≡ Refused number place → Leaves b v times scratch (Answer·Refused number place) times scratch
-  unfolding timesAfter
-  leaves-refused e = (ap (λ (w : Verdict). answerBy w b) (sym e), (refl, subst (λ (w : Verdict). ScratchAfter w scratch scratch) (sym e) refl))
+module _ (b : List ℕ) (step : List ℕ → List ℕ) (times scratch : List ℕ) {v : Verdict} where
+  pub leaves-refused : {number place : ℕ} → v ≡ Refused number place → Leaves b step v times scratch (Answer·Refused number place) times scratch
+  unfolding timesLeft
+  leaves-refused e = (ap (λ (w : Verdict). answerFor w b step) (sym e), (refl, subst (λ (w : Verdict). ScratchAfter w scratch scratch) (sym e) refl))
 
-  pub leaves-answer : {r : Answer} {times' scratch' : List ℕ} → v ≡ Passed → Concluded b times scratch r times' scratch'
-      → Leaves b v times scratch r times' scratch'
+  pub leaves-answer : {r : Answer} {times' scratch' : List ℕ} → v ≡ Passed → Concluded b step times scratch r times' scratch'
+      → Leaves b step v times scratch r times' scratch'
   leaves-answer {scratch' = scratch'} e c =
-      (c .answer ∙ ap (λ (w : Verdict). answerBy w b) (sym e), (c .given, subst (λ (w : Verdict). ScratchAfter w scratch scratch') (sym e) (c .size)))
+      (c .answer ∙ ap (λ (w : Verdict). answerFor w b step) (sym e), (c .given, subst (λ (w : Verdict). ScratchAfter w scratch scratch') (sym e) (c .size)))

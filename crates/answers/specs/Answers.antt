@@ -14,7 +14,7 @@ use Rattle.figures.specs.declared.Figure.{Figure}
 use Rattle.figures.specs.Figures.{figureOf}
 use Rattle.figures.specs.Overhead.{γ}
 use Rattle.sums.specs.Sums.{taskSum}
-use Rattle.passes.specs.Passes.{System, passesNeeded, settled, firstLate}
+use Rattle.passes.specs.Passes.{System, pass, passesBy, settledBy, firstLate}
 -- the passes of a board
 pub use Rattle.settling.specs.System.{system}
 use Rattle.answers.specs.Refusals.{figuresRefusal, overheadRefusal, weighRefusal, analyseRefusal}
@@ -43,15 +43,19 @@ weighAnswer b R i = unlessRefused (weighRefusal b R i) (taskSum b R (i - 1))
 
 -- ---- Analyse
 
--- times, late or spent: of a board that passes the checks
-unfoldable pub settledAnswer : System → ℕ → Answer
-settledAnswer S limit =
-    cond (ltb limit (passesNeeded S)) Spent
-    (cond (ltb (firstLate S (settled S)) (S .count)) (Late (firstLate S (settled S) + 1) (passesNeeded S)) (Times (passesNeeded S)))
+-- times, late or spent, by the passes that a step needs: of a board that passes the checks
+unfoldable pub settledAnswer : System → (List ℕ → List ℕ) → ℕ → Answer
+settledAnswer S step limit =
+    cond (ltb limit (passesBy S step)) Spent
+    (cond (ltb (firstLate S (settledBy S step)) (S .count)) (Late (firstLate S (settledBy S step) + 1) (passesBy S step)) (Times (passesBy S step)))
 
+abbrev pub answerFor : Verdict → List ℕ → (List ℕ → List ℕ) → Answer
+answerFor Passed b step = settledAnswer (system b) step (passLimit b)
+answerFor (Verdict·Refused number place) b step = Refused number place
+
+-- by Analyse's own passes
 abbrev pub answerBy : Verdict → List ℕ → Answer
-answerBy Passed b = settledAnswer (system b) (passLimit b)
-answerBy (Verdict·Refused number place) b = Refused number place
+answerBy v b = answerFor v b (pass (system b))
 
 -- Analyse, with buffers of these lengths
 unfoldable pub analyseAnswer : List ℕ → ℕ → ℕ → ℕ → Answer
@@ -59,12 +63,16 @@ analyseAnswer b times scratch table = answerBy (analyseRefusal b times scratch t
 
 -- ---- lent buffers afterwards
 
--- the times buffer, which was `old`, after Analyse answered r: the settled times are its first n words where the answer is times
-unfoldable pub timesAfter : List ℕ → Answer → List ℕ → List ℕ
-timesAfter b (Times passes) old = fillTo (λ k. getD (settled (system b)) k 0) (tasks b) old
-timesAfter b (Late task passes) old = old
-timesAfter b Spent old = old
-timesAfter b (Refused number place) old = old
+-- the times buffer, which was `old`, after passes by a step and the answer r: the settled times are its first n words where the answer is times
+unfoldable pub timesLeft : System → (List ℕ → List ℕ) → Answer → List ℕ → List ℕ
+timesLeft S step (Times passes) old = fillTo (λ k. getD (settledBy S step) k 0) (S .count) old
+timesLeft S step (Late task passes) old = old
+timesLeft S step Spent old = old
+timesLeft S step (Refused number place) old = old
+
+-- after Analyse answered r
+abbrev pub timesAfter : List ℕ → Answer → List ℕ → List ℕ
+timesAfter b r old = timesLeft (system b) (pass (system b)) r old
 
 -- the figures table after Figures or Analyse: its first n records are the figures, unless refused
 unfoldable pub tableAfter : List ℕ → Verdict → List Figure → List Figure

@@ -4,30 +4,48 @@ use folds::index;
 use settling::Passes;
 ghost use mathlib.Core.Path.{_≡_};
 ghost use Prim.Native.Nat.{_-_, _≤_};
-ghost use lib.ListN.{length};
+ghost use lib.ListN.{length, take};
 ghost use Rattle.sums.specs.Sums.{taskSum};
-ghost use Rattle.scratch.specs.Scratch.{Prepared};
+ghost use Rattle.passes.specs.Passes.{pass};
+ghost use Rattle.settling.specs.System.{system};
+ghost use Rattle.scratch.specs.Scratch.{Passable, Prepared};
 ghost use Rattle.calls.specs.Accepted.{WeighTaken};
-ghost use Rattle.answers.specs.Concluded.{Concluded};
+ghost use Rattle.answers.specs.Concluded.{answerOf, timesOf, Concluded};
 
-// The passes and the answer, over a prepared scratch. The settled times are in the buffer where they are the answer.
-pub fn answer(board: &[u32], n: usize, times: &mut [u32], scratch: &mut [u32]) -> Answer
-    requires { ⌜ (Prepared (now board) n (now scratch)) × (n ≤ length (now times)) ⌝ }
-    ensures { λ r. ⌜ Concluded (now (board .entry)) (now (times .entry)) (now (scratch .entry)) r (now (times .exit)) (now (scratch .exit)) ⌝ }
+// The answer, from the passes that were made over the first n words of the scratch. The settled times are in the buffer where they are the answer.
+pub fn conclude(
+    board: &[u32],
+    n: usize,
+    passes: Passes,
+    times: &mut [u32],
+    scratch: &[u32],
+) -> Answer
+    requires { ⌜ (Passable (now board) n (now scratch)) × (n ≤ length (now times)) ⌝ }
+    ensures { λ r. ⌜ (r ≡ answerOf (system (now (board .entry))) passes (take n (now (scratch .entry))))
+        × (now (times .exit) ≡ timesOf (system (now (board .entry))) passes (take n (now (scratch .entry))) (now (times .entry))) ⌝ }
 {
-    let limit = board::fields::pass_limit(board);
-    match settling::run(board, n, limit, scratch) {
+    match passes {
         Passes::Over => Answer::Spent,
-        Passes::Needed(passes) => {
+        Passes::Needed(made) => {
             let late = late::deliver(board, n, &scratch[..n], times);
             if late < n {
                 let number = late as u32 + 1;
-                Answer::Late(number, passes)
+                Answer::Late(number, made)
             } else {
-                Answer::Times(passes)
+                Answer::Times(made)
             }
         }
     }
+}
+
+// The passes and the answer, over a prepared scratch.
+pub fn answer(board: &[u32], n: usize, times: &mut [u32], scratch: &mut [u32]) -> Answer
+    requires { ⌜ (Prepared (now board) n (now scratch)) × (n ≤ length (now times)) ⌝ }
+    ensures { λ r. ⌜ Concluded (now (board .entry)) (pass (system (now (board .entry)))) (now (times .entry)) (now (scratch .entry)) r (now (times .exit)) (now (scratch .exit)) ⌝ }
+{
+    let limit = board::fields::pass_limit(board);
+    let passes = settling::run(board, n, limit, scratch);
+    conclude(board, n, passes, times, scratch)
 }
 
 // The sum of task i, a number from 1, at the times.

@@ -25,12 +25,12 @@ pub extern "C" fn zuzgravel_figures(board: &[u32], records: &mut [u32], numbers:
     ensures numbers { λ _. ⌜ now (numbers .exit) ≡ fillTo (outcomeNumber (figuresAnswer (now (board .entry)) (length (now (records .entry)) / 13))) 2 (now (numbers .entry)) ⌝ }
     ensures records { λ _. ⌜ now (records .exit) ≡ recordsAfter (now (board .entry)) (figuresRefusal (now (board .entry)) (length (now (records .entry)) / 13)) (now (records .entry)) ⌝ }
 {
-    let room = records.len() / 13;
+    let verdict = calls::check_figures(board, records.len() / 13);
     let mut words = [0u32; 256];
     let mut sets = [0u64; 256];
-    let n = answers::prepare_figures(board, room, &mut words, &mut sets);
+    let n = answers::begin_figures(board, verdict, &mut words, &mut sets);
     fill(board, n, &words, &sets, records);
-    of_outcome(answers::figures_outcome(board, n, room), numbers)
+    of_outcome(answers::finish_figures(verdict, n), numbers)
 }
 
 // Overhead: the value is γ(i, j); tasks are their numbers from 1.
@@ -73,9 +73,10 @@ pub extern "C" fn zuzgravel_analyse(
     ensures demand3 { λ _. ⌜ (analyseRefusal (now (board .entry)) (length (now (times .entry))) (length (now (scratch .entry))) (length (now (records .entry)) / 13) ≡ Passed
         → Demand3 (system (now (board .entry))) (passLimit (now (board .entry))) (analyseAnswer (now (board .entry)) (length (now (times .entry))) (length (now (scratch .entry))) (length (now (records .entry)) / 13)) (now (times .exit))) ⌝ }
 {
-    let room = records.len() / 13;
+    let verdict = calls::check_analyse(board, times.len(), scratch.len(), records.len() / 13);
+    let mut words = [0u32; 256];
     let mut sets = [0u64; 256];
-    let n = answers::prepare(board, times.len(), scratch, room, &mut sets);
-    fill(board, n, scratch, &sets, records);
-    of_answer(answers::conclude(board, n, times, scratch, room), numbers)
+    let n = answers::begin(board, verdict, scratch, &mut words, &mut sets);
+    fill(board, n, &words, &sets, records);
+    of_answer(answers::finish(board, verdict, times, scratch), numbers)
 }

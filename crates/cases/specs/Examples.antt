@@ -15,7 +15,7 @@ use Rattle.figures.specs.Overhead.{evictedBy, reloads, γ}
 use Rattle.sums.specs.Sums.{memoryDemand, ownAccesses, carryIn, coreAccesses, lowerAccesses, interference, busAccesses, refreshes, higherWork, taskSum}
 use Rattle.passes.specs.Passes.{pass, after, unchanged, changes, passesBy, settledBy, firstLate}
 use Rattle.answers.specs.Refusals.{figuresRefusal, overheadRefusal, analyseRefusal}
-use Rattle.answers.specs.Answers.{figuresAnswer, overheadAnswer, settledAnswer, analyseAnswer, timesAfter}
+use Rattle.answers.specs.Answers.{figuresAnswer, overheadAnswer, settledAnswer, analyseAnswer, timesLeft, timesAfter}
 use Rattle.input.specs.Input.{wordsIn, inputRefusal}
 use Rattle.text.specs.Text.{digitsOf, decimal, line}
 use Rattle.page.specs.Page.{taskLines, answerPage, boardPage, pageOf}
@@ -151,7 +151,7 @@ pub examples :
     × (usefulSets K10 ≡ noSet ∷ noSet ∷ noSet ∷ [])
     × (overheadAnswer (K11 4) 2 1 ≡ Value 1)
     × (overheadAnswer (K11 5) 2 1 ≡ Value 0)
-unfolding ceilDiv sumTo maxTo countTo anyTo firstFrom tabulate fillTo sameList wordOf wordsOf firstTrace firstInstruction headerRanges headerOk taskRanges taskOk workOk refuseUnless firstBad refuseFirst refusalOf firstIn lastIn someIn hits missCount traceOf loads tracePD busLoads traceMD evicts useful usefulAt mostUseful taskPD taskMD evicting figureOf evictedBy reloads γ memoryDemand ownAccesses carryIn coreAccesses lowerAccesses interference busAccesses refreshes higherWork taskSum pass after unchanged changes passesBy settledBy firstLate figuresRefusal overheadRefusal analyseRefusal figuresAnswer overheadAnswer settledAnswer analyseAnswer timesAfter wordsIn inputRefusal digitsOf decimal line taskLines answerPage boardPage pageOf
+unfolding ceilDiv sumTo maxTo countTo anyTo firstFrom tabulate fillTo sameList wordOf wordsOf firstTrace firstInstruction headerRanges headerOk taskRanges taskOk workOk refuseUnless firstBad refuseFirst refusalOf firstIn lastIn someIn hits missCount traceOf loads tracePD busLoads traceMD evicts useful usefulAt mostUseful taskPD taskMD evicting figureOf evictedBy reloads γ memoryDemand ownAccesses carryIn coreAccesses lowerAccesses interference busAccesses refreshes higherWork taskSum pass after unchanged changes passesBy settledBy firstLate figuresRefusal overheadRefusal analyseRefusal figuresAnswer overheadAnswer settledAnswer analyseAnswer timesLeft wordsIn inputRefusal digitsOf decimal line taskLines answerPage boardPage pageOf
 examples = (
   (refl, refl),
   refl,

@@ -9,7 +9,7 @@ ghost use Rattle.passes.specs.Passes.{firstLate};
 ghost use Rattle.settling.specs.System.{system};
 ghost use Rattle.late.specs.Delivered.{delivered};
 
-// The first task past its deadline, and n where there is none.
+// The first task past its bound, and n where there is none.
 fn first_late(board: &[u32], n: usize, times: &[u32]) -> usize
     requires { ⌜ (Sound (now board)) × (n ≡ tasks (now board)) × (n ≤ length (now times)) ⌝ }
     ensures { λ r. ⌜ r ≡ firstLate (system (now (board .entry))) (now (times .entry)) ⌝ }
@@ -17,7 +17,7 @@ fn first_late(board: &[u32], n: usize, times: &[u32]) -> usize
     let mut left = n;
     while 0 < left {
         let i = n - left;
-        let last = board::fields::deadline(board, i);
+        let last = sums::rows::bound(board, i);
         if last < times[i] {
             return i;
         }
@@ -27,7 +27,7 @@ fn first_late(board: &[u32], n: usize, times: &[u32]) -> usize
 }
 
 // Copies the first n words.
-fn copy(n: usize, from: &[u32], to: &mut [u32])
+pub fn copy(n: usize, from: &[u32], to: &mut [u32])
     requires { ⌜ (n ≤ length (now from)) × (n ≤ length (now to)) ⌝ }
     ensures { λ _. ⌜ now (to .exit) ≡ fillTo (λ k. getD (now (from .entry)) k 0) n (now (to .entry)) ⌝ }
 {
@@ -38,7 +38,7 @@ fn copy(n: usize, from: &[u32], to: &mut [u32])
     }
 }
 
-// The first task that settled past its deadline, and n where there is none: the settled times are then the first n words of `times`.
+// The first task that settled past its bound, and n where there is none: the settled times are then the first n words of `times`.
 pub fn deliver(board: &[u32], n: usize, settled: &[u32], times: &mut [u32]) -> usize
     requires { ⌜ (Sound (now board)) × (n ≡ tasks (now board)) × (n ≤ length (now settled)) × (n ≤ length (now times)) ⌝ }
     ensures { λ r. ⌜ (r ≡ firstLate (system (now (board .entry))) (now (settled .entry)))

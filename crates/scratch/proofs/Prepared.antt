@@ -18,11 +18,18 @@ use Rattle.figures.proofs.Bounds.{taskMD-bound, γ-bound}
 use Rattle.sums.specs.Sums.{memoryDemand}
 use Rattle.sums.specs.Inputs.{Holds, Times, SumInput}
 use Rattle.scratch.specs.Stored.{Stored}
-use Rattle.scratch.specs.Scratch.{Room, withMD, Addable, Added, Prepared}
+use Rattle.scratch.specs.Scratch.{Passable, Room, withMD, Addable, Added, Prepared}
 
 -- what is kept where as many words are
 pub room-kept : {b : List ℕ} {n : ℕ} {w w' : List ℕ} → Room b n w → length w' ≡ length w → Room b n w'
 room-kept room e = record { sound = room .sound; tasks = room .tasks; words = rw e (room .words) }
+
+-- room for the figures is room for the passes
+pub passable : {b : List ℕ} {n : ℕ} {w : List ℕ} → Room b n w → Passable b n w
+passable room = record { sound = room .sound; tasks = room .tasks; words = omega (arith, room .words) }
+
+pub passable-kept : {b : List ℕ} {n : ℕ} {w w' : List ℕ} → Passable b n w → length w' ≡ length w → Passable b n w'
+passable-kept room e = record { sound = room .sound; tasks = room .tasks; words = rw e (room .words) }
 
 -- what a survey of every task asks
 pub surveyable : {b : List ℕ} {n : ℕ} {w : List ℕ} → Room b n w

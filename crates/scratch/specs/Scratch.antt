@@ -9,7 +9,13 @@ use Rattle.board.specs.Sound.{Sound}
 use Rattle.figures.specs.Figures.{taskPD}
 use Rattle.sums.specs.Sums.{memoryDemand}
 
--- room for the n tasks of a board that passed its checks
+-- the words that passes are made over: times n | next times n, of the n tasks of a board that passed its checks
+pub record Passable (b : List ℕ) (n : ℕ) (w : List ℕ) : Type 0 where
+  pub sound : Sound b
+  pub tasks : n ≡ at.tasks b
+  pub words : 2 * n ≤ length w
+
+-- room for their figures too
 pub record Room (b : List ℕ) (n : ℕ) (w : List ℕ) : Type 0 where
   pub sound : Sound b
   pub tasks : n ≡ at.tasks b

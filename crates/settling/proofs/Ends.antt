@@ -2,37 +2,38 @@
 -- Assumes nothing.
 use Prim.Native.Nat.{ℕ, _≤_, _<_}
 use mathlib.Core.Bool.{Bool, true, false, cond}
+use mathlib.Core.List.{List}
 use mathlib.Core.Path.{_≡_, refl}
 use native.Mathlib.Omega.{arith}
 use lib.Dec.{ltb}
 use borrow.Author.Tests.{lt-ltb, le-ltb, ltb-true, ltb-false}
-use Rattle.passes.specs.Passes.{System, passesNeeded}
+use Rattle.passes.specs.Passes.{System, passesBy}
 use Rattle.settling.specs.declared.Passes.{Passes}
 use Rattle.settling.specs.declared.Passes.the-variants.{Needed, Over}
 use Rattle.settling.specs.Settling.{passesOf}
 
-module _ (S : System) (limit : ℕ) where
-  pub passes-over : limit < passesNeeded S → passesOf S limit ≡ Over
+module _ (S : System) (step : List ℕ → List ℕ) (limit : ℕ) where
+  pub passes-over : limit < passesBy S step → passesOf S step limit ≡ Over
   unfolding passesOf
-  passes-over h = rw (lt-ltb limit (passesNeeded S) h)
+  passes-over h = rw (lt-ltb limit (passesBy S step) h)
 
-  pub passes-needed : (p : ℕ) → passesNeeded S ≡ p → p ≤ limit → passesOf S limit ≡ Needed p
+  pub passes-needed : (p : ℕ) → passesBy S step ≡ p → p ≤ limit → passesOf S step limit ≡ Needed p
   unfolding passesOf
   passes-needed p e h = rw (e, le-ltb limit p h)
 
-  pub over-is : passesOf S limit ≡ Over → limit < passesNeeded S
+  pub over-is : passesOf S step limit ≡ Over → limit < passesBy S step
   unfolding passesOf
-  over-is e = go (ltb limit (passesNeeded S)) refl e
+  over-is e = go (ltb limit (passesBy S step)) refl e
     where
-      go : (t : Bool) → ltb limit (passesNeeded S) ≡ t → cond {A = Passes} t Over (Needed (passesNeeded S)) ≡ Over → limit < passesNeeded S
-      go true q _ = ltb-true limit (passesNeeded S) q
+      go : (t : Bool) → ltb limit (passesBy S step) ≡ t → cond {A = Passes} t Over (Needed (passesBy S step)) ≡ Over → limit < passesBy S step
+      go true q _ = ltb-true limit (passesBy S step) q
       go false _ r = let z : _≡_ {A = ℕ} 0 1 = cc in absurd (omega arith)
 
-  pub needed-is : (p : ℕ) → passesOf S limit ≡ Needed p → (passesNeeded S ≡ p) × (p ≤ limit)
+  pub needed-is : (p : ℕ) → passesOf S step limit ≡ Needed p → (passesBy S step ≡ p) × (p ≤ limit)
   unfolding passesOf
-  needed-is p e = go (ltb limit (passesNeeded S)) refl e
+  needed-is p e = go (ltb limit (passesBy S step)) refl e
     where
-      go : (t : Bool) → ltb limit (passesNeeded S) ≡ t → cond {A = Passes} t Over (Needed (passesNeeded S)) ≡ Needed p
-          → (passesNeeded S ≡ p) × (p ≤ limit)
+      go : (t : Bool) → ltb limit (passesBy S step) ≡ t → cond {A = Passes} t Over (Needed (passesBy S step)) ≡ Needed p
+          → (passesBy S step ≡ p) × (p ≤ limit)
       go true _ r = let z : _≡_ {A = ℕ} 0 1 = cc in absurd (omega arith)
-      go false q r = let same : passesNeeded S ≡ p = cc in (same, omega (arith, ltb-false limit (passesNeeded S) q))
+      go false q r = let same : passesBy S step ≡ p = cc in (same, omega (arith, ltb-false limit (passesBy S step) q))

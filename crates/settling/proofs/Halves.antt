@@ -14,25 +14,25 @@ use Rattle.passes.proofs.Looping.{Passing, passing-none}
 use Rattle.scratch.specs.Stored.{Stored}
 use Rattle.scratch.proofs.Filled.{take-filled}
 use Rattle.scratch.proofs.Stored.{take-before}
-use Rattle.scratch.proofs.Prepared.{prepared-stored}
+use Rattle.scratch.proofs.Prepared.{passable-kept}
 use Rattle.sums.specs.Inputs.{Times}
 use Rattle.settling.specs.Settling.{Startable}
 
 -- before the first pass
-pub passing-cleared : (S : System) {n : ℕ} {w : List ℕ} (old : List ℕ) → n ≡ S .count → n ≤ length old → w ≡ fillTo (λ k. 0) n old
-    → Passing S (pass S) 0 (take n w)
-passing-cleared S {n} {w} old e room cleared =
-    rw (take-filled {f = λ k. 0} old (replicate n 0) cleared room (length-replicate {A = ℕ} n 0) (λ i h. getD-replicate {A = ℕ} n i 0 0 h), e) (passing-none S (pass S))
+pub passing-cleared : (S : System) (step : List ℕ → List ℕ) {n : ℕ} {w : List ℕ} (old : List ℕ) → n ≡ S .count → n ≤ length old → w ≡ fillTo (λ k. 0) n old
+    → Passing S step 0 (take n w)
+passing-cleared S step {n} {w} old e room cleared =
+    rw (take-filled {f = λ k. 0} old (replicate n 0) cleared room (length-replicate {A = ℕ} n 0) (λ i h. getD-replicate {A = ℕ} n i 0 0 h), e) (passing-none S step)
 
 -- while a pass is made
 module _ {b : List ℕ} {n : ℕ} {old : List ℕ} (ready : Startable b n old) where
-  words : n * n + 4 * n ≤ length old
-  words = ready .prepared .room .words
+  words : 2 * n ≤ length old
+  words = ready .room .words
 
   pub startable-times : Times b (take n old)
   startable-times =
       record {
-        long = omega (arith, length-take-le n old (omega (arith, words)), ready .prepared .room .tasks);
+        long = omega (arith, length-take-le n old (omega (arith, words)), ready .room .tasks);
         short = λ k h. ready .capped k h;
       }
 
@@ -42,7 +42,7 @@ module _ {b : List ℕ} {n : ℕ} {old : List ℕ} (ready : Startable b n old) w
 
     pub startable-stored : m ≤ n → Startable b n w
     startable-stored h =
-        record { prepared = prepared-stored (ready .prepared) stored (omega arith); capped = rw times-kept (ready .capped) }
+        record { room = passable-kept (ready .room) (stored .size); capped = rw times-kept (ready .capped) }
 
 -- after a pass
 module _ (S : System) {n : ℕ} {old new : List ℕ} (tasks : n ≡ S .count) (room : 2 * n ≤ length old)

@@ -17,7 +17,7 @@ use Rattle.sums.specs.Sums.{bound}
 use Rattle.sums.proofs.TimesRead.{taskSum-reads}
 use Rattle.passes.specs.Passes.{capped}
 use Rattle.scratch.specs.Stored.{Stored}
-use Rattle.scratch.specs.Scratch.{Room}
+use Rattle.scratch.specs.Scratch.{Passable}
 use Rattle.settling.specs.System.{system}
 use Rattle.settling.specs.Kept.{Within, Joined, Told, Kept}
 use Rattle.settling.proofs.Halves.{still, next-kept}
@@ -77,18 +77,17 @@ module _ {b : List ℕ} {n : ℕ} {w : List ℕ} where
         }
 
 -- a pass was made, and its next times moved to the front
-pub kept-next : {b : List ℕ} {n : ℕ} {old new w : List ℕ} {moved : List Bool} {all : ℕ} → Room b n old
+pub kept-next : {b : List ℕ} {n : ℕ} {old new w : List ℕ} {moved : List Bool} {all : ℕ} → Passable b n old
     → Stored (capped (system b) (take n old)) n n old new → w ≡ fillTo (λ k. getD new (n + k) 0) n new → Told b n new moved all n → Kept b n w moved all
 kept-next {b} {n} {old} {new} {w} room made advanced told i h e within =
     let S = system b in
-    let words : 2 * n ≤ length old = omega (arith, room .words) in
     let cores = room .sound .core i (omega (arith, room .tasks)) in
-    next-kept S (room .tasks) words made advanced i h
+    next-kept S (room .tasks) (room .words) made advanced i h
     ∙ ap (λ (s : ℕ). min s (bound b i + 1))
-    (taskSum-reads b (take n old) (take n w) i (omega (arith, room .tasks)) (still S (room .tasks) words made advanced i h (told .own i h e))
+    (taskSum-reads b (take n old) (take n w) i (omega (arith, room .tasks)) (still S (room .tasks) (room .words) made advanced i h (told .own i h e))
     (λ some k l off.
     let task : k < n = omega (arith, room .tasks) in
-    still S (room .tasks) words made advanced k task
+    still S (room .tasks) (room .words) made advanced k task
     (told .others some (core b i) (omega (arith, cores, room .sound .cores)) within k task off)))
 
 -- while a pass is made: word n of the part, which is kept, is the one that would be stored

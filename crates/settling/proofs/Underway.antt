@@ -12,9 +12,8 @@ use Rattle.folds.proofs.Lists.{length-fillTo}
 use Rattle.passes.specs.Passes.{System, capped, pass, passesNeeded}
 use Rattle.passes.proofs.Looping.{Passing, passing-more, passing-capped, passing-over, passing-needed, passing-settled}
 use Rattle.scratch.specs.Stored.{Stored}
-use Rattle.scratch.specs.Scratch.{Prepared}
-use Rattle.scratch.proofs.Stored.{filled-stored}
-use Rattle.scratch.proofs.Prepared.{prepared-stored}
+use Rattle.scratch.specs.Scratch.{Passable}
+use Rattle.scratch.proofs.Prepared.{passable-kept}
 use Rattle.settling.specs.declared.Passes.the-variants.{Needed, Over}
 use Rattle.settling.specs.System.{system}
 use Rattle.settling.specs.Kept.{Told, Kept}
@@ -29,38 +28,38 @@ pub record Underway (b : List ℕ) (n limit : ℕ) (w₀ w : List ℕ) (left : �
   pub within : left ≤ limit
   pub size : length w ≡ length w₀
   pub so-far : Passing (system b) (pass (system b)) (limit - left) (take n w)
-  pub prepared : Prepared b n w
+  pub room : Passable b n w
   pub kept : Kept b n w moved all
 
 -- all times are 0
-pub underway-start : {b : List ℕ} {n : ℕ} {w₀ w : List ℕ} (limit : ℕ) → Prepared b n w₀ → w ≡ fillTo (λ k. 0) n w₀ → Underway b n limit w w limit (replicate 64 true) 9
+pub underway-start : {b : List ℕ} {n : ℕ} {w₀ w : List ℕ} (limit : ℕ) → Passable b n w₀ → w ≡ fillTo (λ k. 0) n w₀ → Underway b n limit w w limit (replicate 64 true) 9
 underway-start {b} {n} {w₀} {w} limit ready cleared =
-    let room : n * n + 4 * n ≤ length w₀ = ready .room .words in
+    let room : 2 * n ≤ length w₀ = ready .words in
     record {
       within = omega arith;
       size = refl;
-      so-far = rw (sub-self limit) (passing-cleared (system b) w₀ (ready .room .tasks) (omega arith) cleared);
-      prepared = prepared-stored ready (filled-stored cleared (omega arith)) (omega arith);
-      kept = kept-none b n w 9 (omega (arith, ready .room .sound .tasks .1, ready .room .tasks));
+      so-far = rw (sub-self limit) (passing-cleared (system b) (pass (system b)) w₀ (ready .tasks) (omega arith) cleared);
+      room = passable-kept ready (ap length cleared ∙ length-fillTo (λ k. 0) w₀ n);
+      kept = kept-none b n w 9 (omega (arith, ready .sound .tasks .1, ready .tasks));
     }
 
 module _ {b : List ℕ} {n limit : ℕ} {w₀ w : List ℕ} {left : ℕ} {moved : List Bool} {all : ℕ} (u : Underway b n limit w₀ w left moved all) where
   pub underway-startable : Startable b n w
-  underway-startable = record { prepared = u .prepared; capped = passing-capped (system-ascending b) (u .so-far) }
+  underway-startable = record { room = u .room; capped = passing-capped (system-ascending b) (u .so-far) }
 
   -- no pass is left
-  pub underway-over : left ≡ 0 → (Over ≡ passesOf (system b) limit) × Ended (system b) limit w₀ w
+  pub underway-over : left ≡ 0 → (Over ≡ passesOf (system b) (pass (system b)) limit) × Ended (system b) (pass (system b)) limit w₀ w
   underway-over none =
       let over : limit < passesNeeded (system b) = omega (arith, passing-over (system-ascending b) (u .so-far)) in
-      (sym (passes-over (system b) limit over), record { size = u .size; times = λ h. absurd (omega arith) })
+      (sym (passes-over (system b) (pass (system b)) limit over), record { size = u .size; times = λ h. absurd (omega arith) })
 
   -- one more pass was made
   module _ (some : 0 < left) {new : List ℕ} (made : Stored (capped (system b) (take n w)) n n w new) where
     tasks : n ≡ system b .count
-    tasks = u .prepared .room .tasks
+    tasks = u .room .tasks
 
     room : 2 * n ≤ length w
-    room = omega (arith, u .prepared .room .words)
+    room = u .room .words
 
     count : limit - left + 1 ≡ limit - (left - 1)
     count = omega (arith, u .within)
@@ -75,19 +74,19 @@ module _ {b : List ℕ} {n limit : ℕ} {w₀ w : List ℕ} {left : ℕ} {moved 
           size = ap length advance ∙ length-fillTo (λ k. getD new (n + k) 0) new n ∙ made .size ∙ u .size;
           so-far = subst₂ (λ (p : ℕ) (R : List ℕ). Passing S (pass S) p R) count (sym (advanced S tasks room made advance))
               (passing-more (u .so-far) (λ e. differ (agree S tasks room made e i h)));
-          prepared = prepared-stored (prepared-stored (u .prepared) made (omega arith)) (filled-stored advance (omega (arith, made .size, room))) (omega arith);
-          kept = kept-next (u .prepared .room) made advance told;
+          room = passable-kept (u .room) (ap length advance ∙ length-fillTo (λ k. getD new (n + k) 0) new n ∙ made .size);
+          kept = kept-next (u .room) made advance told;
         }
 
     -- and changed none
     pub underway-still : ((k : ℕ) → k < n → getD new k 0 ≡ getD new (n + k) 0)
-        → (Needed (limit - (left - 1)) ≡ passesOf (system b) limit) × Ended (system b) limit w₀ new
+        → (Needed (limit - (left - 1)) ≡ passesOf (system b) (pass (system b)) limit) × Ended (system b) (pass (system b)) limit w₀ new
     underway-still same =
         let S = system b in
         let fixed = stands S tasks room made same in
         let needed = passing-needed (system-ascending b) (u .so-far) fixed ∙ count in
         let R : take n new ≡ take n w = front S tasks room made in (
-          sym (passes-needed S limit (limit - (left - 1)) needed (omega arith)),
+          sym (passes-needed S (pass S) limit (limit - (left - 1)) needed (omega arith)),
           record {
             size = made .size ∙ u .size;
             times = λ _. ap (λ (k : ℕ). take k new) (sym tasks) ∙ R ∙ sym (passing-settled (system-ascending b) (u .so-far) fixed);
@@ -95,5 +94,5 @@ module _ {b : List ℕ} {n limit : ℕ} {w₀ w : List ℕ} {left : ℕ} {moved 
         )
 
 -- over the scratch as it was before the times were cleared
-pub ended-cleared : {S : System} {limit : ℕ} {w w' : List ℕ} (n : ℕ) (old : List ℕ) → w ≡ fillTo (λ k. 0) n old → Ended S limit w w' → Ended S limit old w'
+pub ended-cleared : {S : System} {step : List ℕ → List ℕ} {limit : ℕ} {w w' : List ℕ} (n : ℕ) (old : List ℕ) → w ≡ fillTo (λ k. 0) n old → Ended S step limit w w' → Ended S step limit old w'
 ended-cleared n old cleared ended = record { size = ended .size ∙ ap length cleared ∙ length-fillTo (λ k. 0) old n; times = ended .times }

@@ -6,22 +6,22 @@ use mathlib.Core.List.{List}
 use mathlib.Core.Path.{_≡_}
 use lib.Dec.{ltb}
 use lib.ListN.{length, take}
-use Rattle.passes.specs.Passes.{System, Capped, passesNeeded, settled}
-use Rattle.scratch.specs.Scratch.{Prepared}
+use Rattle.passes.specs.Passes.{System, Capped, passesBy, settledBy}
+use Rattle.scratch.specs.Scratch.{Passable}
 use Rattle.settling.specs.declared.Passes.{Passes}
 use Rattle.settling.specs.declared.Passes.the-variants.{Needed, Over}
 use Rattle.settling.specs.System.{system}
 
 -- a prepared scratch with times, in its first n words, that a pass can start from
 pub record Startable (b : List ℕ) (n : ℕ) (w : List ℕ) : Type 0 where
-  pub prepared : Prepared b n w
+  pub room : Passable b n w
   pub capped : Capped (system b) (take n w)
 
--- the passes needed, unless they exceed the limit
-unfoldable pub passesOf : System → ℕ → Passes
-passesOf S limit = cond (ltb limit (passesNeeded S)) Over (Needed (passesNeeded S))
+-- the passes needed by a step, unless they exceed the limit
+unfoldable pub passesOf : System → (List ℕ → List ℕ) → ℕ → Passes
+passesOf S step limit = cond (ltb limit (passesBy S step)) Over (Needed (passesBy S step))
 
 -- what is left of a scratch of w words once the passes have ended, with the settled times as its first n words where they were reached
-pub record Ended (S : System) (limit : ℕ) (w w' : List ℕ) : Type 0 where
+pub record Ended (S : System) (step : List ℕ → List ℕ) (limit : ℕ) (w w' : List ℕ) : Type 0 where
   pub size : length w' ≡ length w
-  pub times : passesNeeded S ≤ limit → take (S .count) w' ≡ settled S
+  pub times : passesBy S step ≤ limit → take (S .count) w' ≡ settledBy S step

@@ -6,6 +6,7 @@ use pass::advance;
 use pass::clear;
 use pass::make_pass;
 ghost use mathlib.Core.Path.{_≡_};
+ghost use Rattle.passes.specs.Passes.{pass};
 ghost use Rattle.scratch.specs.Scratch.{Prepared};
 ghost use Rattle.settling.specs.System.{system};
 ghost use Rattle.settling.specs.Settling.{passesOf, Ended};
@@ -20,8 +21,9 @@ pub enum Passes {
 // the settled times are then the first n words.
 pub fn run(board: &[u32], n: usize, limit: u32, scratch: &mut [u32]) -> Passes
     requires { ⌜ Prepared (now board) n (now scratch) ⌝ }
-    ensures { λ r. ⌜ (r ≡ passesOf (system (now (board .entry))) limit)
-        × Ended (system (now (board .entry))) limit (now (scratch .entry)) (now (scratch .exit)) ⌝ }
+    ensures { λ r. ⌜ (r ≡ passesOf (system (now (board .entry))) (pass (system (now (board .entry)))) limit)
+        × Ended (system (now (board .entry))) (pass (system (now (board .entry)))) limit (now (scratch .entry)) (now (scratch .exit))
+        × Prepared (now (board .entry)) n (now (scratch .exit)) ⌝ }
 {
     clear(n, scratch);
     let mut left = limit;

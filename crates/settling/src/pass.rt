@@ -7,18 +7,18 @@ ghost use lib.ListN.{length, getD, take};
 ghost use Rattle.folds.specs.Folds.{fillTo};
 ghost use Rattle.passes.specs.Passes.{capped};
 ghost use Rattle.scratch.specs.Stored.{Stored};
-ghost use Rattle.scratch.specs.Scratch.{Room};
+ghost use Rattle.scratch.specs.Scratch.{Passable, Prepared};
 ghost use Rattle.settling.specs.System.{system};
 ghost use Rattle.settling.specs.Kept.{Told, Kept};
 ghost use Rattle.settling.specs.Settling.{Startable};
 
-// The next time of task i: its sum, or D + 1 where the sum is larger.
+// The next time of task i: its sum, or its bound + 1 where the sum is larger.
 fn next_time(board: &[u32], n: usize, scratch: &[u32], i: usize) -> u32
-    requires { ⌜ (Startable (now board) n (now scratch)) × (i < n) ⌝ }
+    requires { ⌜ (Startable (now board) n (now scratch)) × (Prepared (now board) n (now scratch)) × (i < n) ⌝ }
     ensures { λ r. ⌜ r ≡ capped (system (now (board .entry))) (take n (now (scratch .entry))) i ⌝ }
 {
     let sum = scratch::sum_of(board, n, scratch, &scratch[..n], i);
-    let cap = board::fields::deadline(board, i) + 1;
+    let cap = sums::rows::bound(board, i) + 1;
     let time = folds::smaller(sum, folds::wide(cap));
     time as u32
 }
@@ -26,7 +26,7 @@ fn next_time(board: &[u32], n: usize, scratch: &[u32], i: usize) -> u32
 // One pass: the n words from n on become the next times of the first n words. The next times of tasks that read no moved time
 // are there already; `all` is the core of all tasks that moved.
 pub fn make_pass(board: &[u32], n: usize, moved: &[bool], all: u32, scratch: &mut [u32])
-    requires { ⌜ (Startable (now board) n (now scratch)) × (n ≤ length (now moved)) × Kept (now board) n (now scratch) (now moved) all ⌝ }
+    requires { ⌜ (Startable (now board) n (now scratch)) × (Prepared (now board) n (now scratch)) × (n ≤ length (now moved)) × Kept (now board) n (now scratch) (now moved) all ⌝ }
     ensures { λ _. ⌜ Stored (capped (system (now (board .entry))) (take n (now (scratch .entry)))) n n (now (scratch .entry)) (now (scratch .exit)) ⌝ }
 {
     let mut i = 0;
@@ -52,7 +52,7 @@ pub fn clear(n: usize, words: &mut [u32])
 
 // Moves the n words from n on to the front, and tells which of the n words there this changed, and on which core all of them are.
 pub fn advance(board: &[u32], n: usize, moved: &mut [bool], words: &mut [u32]) -> u32
-    requires { ⌜ (Room (now board) n (now words)) × (n ≤ length (now moved)) ⌝ }
+    requires { ⌜ (Passable (now board) n (now words)) × (n ≤ length (now moved)) ⌝ }
     ensures { λ _. ⌜ now (words .exit) ≡ fillTo (λ k. getD (now (words .entry)) (n + k) 0) n (now (words .entry)) ⌝ }
     ensures { λ r. ⌜ Told (now (board .entry)) n (now (words .entry)) (now (moved .exit)) r n ⌝ }
 {

@@ -1,28 +1,43 @@
--- `analysis::analyse_alone` meets its contract: the two halves of `analyse`, with no table between them.
+-- `analysis::analyse_alone` meets its contract: what `analyse` does, with no table filled.
 -- Assumes nothing.
+use mathlib.Core.Path.{_≡_, sym, _∙_}
 use lib.ListN.{length}
-use denote.Ref.{now}
 use borrow.Author.Needs.{needs}
-use Rattle.answers.specs.Refusals.{analyseRefusal}
-use Rattle.answers.specs.Answers.{analyseAnswer}
-use Rattle.answers.proofs.Begun.{concludable, joined}
+use Rattle.board.specs.declared.Verdict.the-variants.{Passed}
+use Rattle.calls.specs.Accepted.{AnalyseTaken}
+use Rattle.calls.proofs.Accepted.{analyse-taken}
+use Rattle.answers.specs.Answers.{answerBy, analyseAnswer}
+use Rattle.answers.proofs.Begun.{room-taken, joined}
 use Rattle.analysis.proofs.analyse_alone.Statement.{statement}
 use Rattle.analysis.proofs.analyse_alone.Tie as tie
 
+abbrev Checked : Type 0
+Checked = tie.After-check-analyse
+
+abbrev start-of : Checked → tie.Start
+start-of k = k .before .before .before .before
+
+-- where nothing is refused
+taken : (k : Checked) → let a = start-of k .args in k .check-analyse .result ≡ Passed → AnalyseTaken (a .board .now) (length (a .times .now)) (length (a .scratch .now)) 64
+taken k passed = analyse-taken _ _ _ _ (sym (k .check-analyse .ensures) ∙ passed)
+
+abbrev checked-of : tie.After-begin → Checked
+checked-of g = g .before .before .before .before
+
 pub analyse-alone-spec : {M : Type 1} → statement M
+unfolding analyseAnswer
 analyse-alone-spec =
     tie.close
     (tie.spec
     (λ c κs. search needs)
-    (λ c κs.
-    let p = c .before .before .before .before in
-    let a = p .before .before .before .before .before .before .args in
-    concludable (λ k. analyseRefusal (now (a .board)) (length (now (a .times))) k 64) (p .prepare .ensures))
+    (λ c. search needs)
+    (λ c κs. (λ passed. room-taken _ (taken (c .before .before .before) passed), search needs))
+    (λ c κs passed.
+    let g = c .before .before .before .before .before in
+    (g .begin .ensures .ready passed, taken (checked-of g) passed .analysable .timesRoom))
     (λ c. search needs)
     (λ c. search needs)
     (λ c.
-    let r = c .before .before .before .before in
-    let p = r .before .before .before .before .before in
-    let a = p .before .before .before .before .before .before .args in
-    joined (λ k. analyseRefusal (now (a .board)) (length (now (a .times))) k 64) (p .prepare .ensures)
-    (λ k. analyseAnswer (now (a .board)) (length (now (a .times))) k 64) _ (r .conclude .ensures)))
+    let d = c .before .before .before .before in
+    let g = d .before .before .before .before .before .before in
+    joined (checked-of g .check-analyse .ensures) (g .begin .ensures) (λ v. answerBy v (start-of (checked-of g) .args .board .now)) _ (d .finish .ensures)))

@@ -9,7 +9,8 @@ use borrow.Author.Count.{below-more}
 use borrow.Author.Needs.{needs}
 use borrow.Author.Tests.{lt-ltb, le-ltb}
 use Rattle.folds.proofs.Searches.{firstFrom-here, firstFrom-none}
-use Rattle.board.specs.Layout.{tasks, deadline}
+use Rattle.board.specs.Layout.{tasks}
+use Rattle.sums.specs.Sums.{bound}
 use Rattle.passes.specs.Passes.{isLate, firstLate}
 use Rattle.settling.specs.System.{system}
 use Rattle.late.proofs.first_late.Statement.{statement}
@@ -37,7 +38,7 @@ first-late-spec =
     let l = c .before .before .before .before .loop in
     let a = c .before .before .before .before .before .before .before .args in
     let i = a .n - l .left in
-    let over : deadline (a .board .now) i < getD (a .times .now) i 0 = omega arith in
+    let over : bound (a .board .now) i < getD (a .times .now) i 0 = omega arith in
     sym (firstFrom-here (isLate (system (a .board .now)) (a .times .now)) (tasks (a .board .now)) i (omega arith) (l .inv .1) (lt-ltb _ _ over)))
     (λ c. search needs)
     (λ c. search needs)
@@ -45,7 +46,7 @@ first-late-spec =
     let l = c .before .before .before .before .loop in
     let a = c .before .before .before .before .before .before .before .args in
     let i = a .n - l .left in
-    let within : getD (a .times .now) i 0 ≤ deadline (a .board .now) i = omega arith in
+    let within : getD (a .times .now) i 0 ≤ bound (a .board .now) i = omega arith in
     (omega arith, λ k h. below-more _ i (l .inv .1) (le-ltb _ _ within) k (omega arith)))
     (λ c.
     let s = c .before .before .before .before in

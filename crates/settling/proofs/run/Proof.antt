@@ -6,7 +6,9 @@ use native.Mathlib.Omega.{arith}
 use lib.ListN.{length, getD}
 use borrow.Author.Count.{below-more}
 use borrow.Author.Needs.{needs}
-use Rattle.scratch.proofs.Prepared.{room-kept}
+use Rattle.scratch.specs.Scratch.{Prepared}
+use Rattle.scratch.proofs.Stored.{filled-stored}
+use Rattle.scratch.proofs.Prepared.{passable, passable-kept, prepared-stored}
 use Rattle.settling.proofs.Underway.{Underway, underway-start, underway-startable, underway-over, underway-next, underway-still, ended-cleared}
 use Rattle.settling.proofs.run.Statement.{statement}
 use Rattle.settling.proofs.run.Tie as tie
@@ -18,7 +20,7 @@ abbrev μ-compare : tie.MeasureT-compare
 μ-compare board n limit scratch left moved all i₀ i = n - i
 
 abbrev Inv-passes : tie.InvT-passes
-Inv-passes board n limit scratch₀ left₀ moved₀ all₀ scratch left moved all = Underway board n limit scratch₀ scratch left moved all × (length moved ≡ 64)
+Inv-passes board n limit scratch₀ left₀ moved₀ all₀ scratch left moved all = Underway board n limit scratch₀ scratch left moved all × (length moved ≡ 64) × Prepared board n scratch
 
 abbrev μ-passes : tie.MeasureT-passes
 μ-passes board n limit scratch₀ left₀ moved₀ all₀ scratch left moved all = left
@@ -42,10 +44,12 @@ run-spec =
     Inv-passes
     μ-passes
     (λ c κs. search needs)
-    (λ c. let s = c .before .before .before .before .before .before in (underway-start (s .args .limit) (s .pre) (c .before .before .clear .ensures), refl))
+    (λ c. let s = c .before .before .before .before .before .before in
+    let cleared = c .before .before .clear .ensures in
+    (underway-start (s .args .limit) (passable (s .pre .room)) cleared, refl, prepared-stored (s .pre) (filled-stored cleared (omega (arith, s .pre .room .words))) (omega arith)))
     (λ c. search needs)
     (λ c. search needs)
-    (λ c κs. let u = c .before .before .before .passes .inv .0 in (underway-startable u, search needs, u .kept))
+    (λ c κs. let inv = c .before .before .before .passes .inv in (underway-startable (inv .0), inv .2, search needs, inv .0 .kept))
     (λ c. search needs)
     (λ c. search needs)
     (λ c. search needs)
@@ -59,25 +63,29 @@ run-spec =
     (λ c. search needs)
     (λ c κs.
     let m = c .before .before .before .before .before .before .before .before .before in
-    (room-kept (head-of m .passes .inv .0 .prepared .room) (m .make-pass .ensures .size), search needs))
+    (passable-kept (head-of m .passes .inv .0 .room) (m .make-pass .ensures .size), search needs))
     (λ c. search needs)
     (λ c.
     let differ = c .before .before .before .before .before .before in
-    let m = differ .before .before .before .before .before .before .before in (
-      underway-next (head-of m .passes .inv .0) (omega arith) (m .make-pass .ensures) (omega arith) (differ .if3 .taken)
+    let m = differ .before .before .before .before .before .before .before in
+    let made = m .make-pass .ensures in
+    let inv = head-of m .passes .inv in (
+      underway-next (inv .0) (omega arith) (m .make-pass .ensures) (omega arith) (differ .if3 .taken)
           (c .before .before .before .advance .ensures .0) (c .before .before .before .advance .ensures .1),
       search needs,
+      prepared-stored (prepared-stored (inv .2) made (omega arith))
+          (filled-stored (c .before .before .before .advance .ensures .0) (omega (arith, made .size, inv .0 .room .words))) (omega arith),
     ))
     (λ c. search needs)
     (λ c.
     let h = c .before in
     let s = h .before .before .before .before .before .before .before in
     let end = underway-over (h .passes .inv .0) (omega arith) in
-    (end .0, ended-cleared (s .args .n) (s .args .scratch .now) (h .before .before .before .clear .ensures) (end .1)))
+    (end .0, ended-cleared (s .args .n) (s .args .scratch .now) (h .before .before .before .clear .ensures) (end .1), h .passes .inv .2))
     (λ c. search needs)
     (λ c.
     let m = c .before .before .before .before in
     let h = head-of m in
     let s = h .before .before .before .before .before .before .before in
     let end = underway-still (h .passes .inv .0) (omega arith) (m .make-pass .ensures) (λ k l. c .before .compare .inv .1 k (omega arith)) in
-    (end .0, ended-cleared (s .args .n) (s .args .scratch .now) (h .before .before .before .clear .ensures) (end .1))))
+    (end .0, ended-cleared (s .args .n) (s .args .scratch .now) (h .before .before .before .clear .ensures) (end .1), prepared-stored (h .passes .inv .2) (m .make-pass .ensures) (omega arith))))

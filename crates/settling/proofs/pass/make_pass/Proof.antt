@@ -10,6 +10,7 @@ use borrow.Author.Needs.{needs}
 use Rattle.passes.specs.Passes.{capped}
 use Rattle.scratch.specs.Stored.{Stored}
 use Rattle.scratch.proofs.Stored.{stored-none, stored-next, stored-all}
+use Rattle.scratch.proofs.Prepared.{prepared-stored}
 use Rattle.settling.specs.System.{system}
 use Rattle.settling.specs.Kept.{Within}
 use Rattle.settling.proofs.Halves.{startable-stored, times-kept}
@@ -32,12 +33,12 @@ again c =
       ⊎-elim
           (λ came.
           rw (came .3)
-          (stored-next _ _ _ (l .inv .1) (omega (arith, s .pre .0 .prepared .room .words))
+          (stored-next _ _ _ (l .inv .1) (omega (arith, s .pre .0 .room .words))
           (came .2 .ensures ∙ ap (λ (R : List ℕ). capped (system (s .args .board .now)) R (l .i)) (times-kept (s .pre .0) (l .inv .1)))))
           (λ came.
           let left = c .before .is-due .ensures (came .0 .left) in
           let core = c .before .before .core .ensures .0 in
-          rw (came .1) (stored-kept (l .inv .1) (s .pre .2 (l .i) (omega arith) (left .0) (subst (Within _) core (left .1)))))
+          rw (came .1) (stored-kept (l .inv .1) (s .pre .3 (l .i) (omega arith) (left .0) (subst (Within _) core (left .1)))))
           (c .if1 .came),
     )
 
@@ -49,11 +50,12 @@ make-pass-spec =
     μ-loop
     (λ c. (omega arith, stored-none _ _ _))
     (λ c. search needs)
-    (λ c κs. let room = c .before .before .before .before .before .before .pre .0 .prepared .room in (room .sound, omega (arith, room .tasks)))
+    (λ c κs. let room = c .before .before .before .before .before .before .pre .0 .room in (room .sound, omega (arith, room .tasks)))
     (λ c κs. search needs)
     (λ c κs.
     let l = c .before .before .before .before .before .before .loop in
-    (startable-stored (c .before .before .before .before .before .before .before .before .before .before .pre .0) (l .inv .1) (l .inv .0), omega arith))
+    let s = c .before .before .before .before .before .before .before .before .before .before in
+    (startable-stored (s .pre .0) (l .inv .1) (l .inv .0), prepared-stored (s .pre .1) (l .inv .1) (omega (arith, l .inv .0)), omega arith))
     (λ c. search needs)
     (λ c. search needs)
     (λ c. search needs)
