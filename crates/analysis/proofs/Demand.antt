@@ -14,7 +14,7 @@ use borrow.Author.Tests.{ltb-true, ltb-false}
 use Rattle.folds.specs.Folds.{fillTo}
 use Rattle.folds.proofs.Lists.{length-fillTo, fillTo-below}
 use Rattle.board.specs.Layout.{tasks, passLimit}
-use Rattle.board.specs.declared.Verdict.the-variants.{Passed}
+use Rattle.refusals.specs.declared.Verdict.the-variants.{Passed}
 use Rattle.passes.specs.Passes.{System, pass, passesBy, settledBy, settled, firstLate, SmallestLate}
 use Rattle.passes.proofs.Ascending.{Ascending}
 use Rattle.passes.proofs.Settling.{settled-length}

@@ -34,9 +34,9 @@ use denote.Triple.Statement.{Contract}
 use denote.Triple.Spec.{tripleOf}
 use denote.Triple.Walked.{says}
 use Rattle.folds.specs.Folds.{fillTo}
-use Rattle.board.specs.declared.Verdict.{Verdict}
-use Rattle.board.proofs.Verdict as Y
-use Rattle.board.proofs.Verdict.Laws as Y′
+use Rattle.refusals.specs.declared.Verdict.{Verdict}
+use Rattle.refusals.proofs.Verdict as Y
+use Rattle.refusals.proofs.Verdict.Laws as Y′
 use Rattle.figures.specs.declared.Figure.{Figure}
 use Rattle.figures.specs.Figures.{figureOf}
 use Rattle.figures.specs.Survey.{Fillable}

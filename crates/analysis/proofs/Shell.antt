@@ -67,10 +67,10 @@ use denote.Triple.Spec.{Meets, tripleOf}
 use denote.Triple.Walked.{says, onExit, Stays, stay-none-slice, gave-slice, walkOf, goes-none-slice, goes-gave-slice, Walks, ends-at, walked, walk-meets}
 use denote.Exit.{yes}
 use Rattle.board.specs.Layout.{tasks}
-use Rattle.board.specs.declared.Verdict.{Verdict}
-use Rattle.board.specs.declared.Verdict.the-variants.{Passed}
-use Rattle.board.proofs.Verdict as Y
-use Rattle.board.proofs.Verdict.Laws as Y′
+use Rattle.refusals.specs.declared.Verdict.{Verdict}
+use Rattle.refusals.specs.declared.Verdict.the-variants.{Passed}
+use Rattle.refusals.proofs.Verdict as Y
+use Rattle.refusals.proofs.Verdict.Laws as Y′
 use Rattle.figures.specs.declared.Figure.{Figure}
 use Rattle.figures.proofs.Figure as T
 use Rattle.figures.proofs.Figure.Laws as T′

@@ -8,8 +8,8 @@ use lib.ListN.{length, getD}
 use Rattle.folds.specs.Folds.{fillTo}
 use Rattle.folds.proofs.Lists.{length-fillTo, fillTo-below}
 use Rattle.board.specs.Layout.{tasks}
-use Rattle.board.specs.declared.Verdict.{Verdict}
-use Rattle.board.specs.declared.Verdict.the-variants.{Passed, Refused}
+use Rattle.refusals.specs.declared.Verdict.{Verdict}
+use Rattle.refusals.specs.declared.Verdict.the-variants.{Passed, Refused}
 use Rattle.figures.specs.Survey.{Held}
 use Rattle.figures.proofs.Fillable.{fillable-tasks, fillable-none}
 use Rattle.scratch.specs.Scratch.{Room, Prepared}

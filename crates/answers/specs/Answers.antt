@@ -8,8 +8,8 @@ use lib.Dec.{ltb}
 use lib.ListN.{length, getD}
 use Rattle.folds.specs.Folds.{fillTo}
 use Rattle.board.specs.Layout.{tasks, passLimit}
-use Rattle.board.specs.declared.Verdict.{Verdict}
-use Rattle.board.specs.declared.Verdict.the-variants.{Passed, Refused as Verdict·Refused}
+use Rattle.refusals.specs.declared.Verdict.{Verdict}
+use Rattle.refusals.specs.declared.Verdict.the-variants.{Passed, Refused as Verdict·Refused}
 use Rattle.figures.specs.declared.Figure.{Figure}
 use Rattle.figures.specs.Figures.{figureOf}
 use Rattle.figures.specs.Overhead.{γ}

@@ -2,14 +2,14 @@
 // table, the answer. A refused call writes nothing.
 pub mod taken;
 
-use board::Verdict;
+use refusals::Verdict;
 use folds::index;
 ghost use mathlib.Core.Path.{_≡_};
 ghost use Prim.Native.Nat.{_≤_};
 ghost use lib.ListN.{length};
 ghost use Rattle.board.specs.Layout.{tasks};
 ghost use Rattle.board.specs.Sound.{Sound};
-ghost use Rattle.board.specs.declared.Verdict.the-variants.{Passed};
+ghost use Rattle.refusals.specs.declared.Verdict.the-variants.{Passed};
 ghost use Rattle.figures.specs.Survey.{Fillable};
 ghost use Rattle.scratch.specs.Scratch.{Room, Prepared};
 ghost use Rattle.answers.specs.Answers.{unlessRefused, answerBy, timesAfter, ScratchAfter};

@@ -1,7 +1,2 @@
--- The laws of the refusal table.
-pub mod Verdicts
-pub mod Searches
-pub mod Rows
-pub mod Strides
-pub mod Sound
-pub mod Passes
+-- The laws of a board that passed its checks.
+pub mod Extents

@@ -1,5 +1,3 @@
--- The board: where its words stand, and which boards are refused.
+-- The board: where its words stand, and what a board that passed its checks is known to have.
 pub mod Layout
-pub mod Refusals
 pub mod Sound
-pub mod Parts

@@ -1,5 +1,5 @@
-// Reads boards from standard input, one to a line, and prints the verdict of `board::check` on each: `ok`, or `bad` with number and place.
-use board::Verdict;
+// Reads boards from standard input, one to a line, and prints the verdict of `refusals::check` on each: `ok`, or `bad` with number and place.
+use refusals::Verdict;
 use libc::STDOUT_FILENO;
 use lines::print::print_refusal;
 use lines::read_line;
@@ -32,7 +32,7 @@ fn one_line(text: &[u8], from: usize) -> usize
 }
 
 fn answer(words: &[u32]) {
-    match board::check(words) {
+    match refusals::check(words) {
         Verdict::Passed => {
             io::write_all(STDOUT_FILENO, b"ok\n");
         }

@@ -8,10 +8,10 @@ use lib.ListN.{length, getD}
 use borrow.Author.Tests.{leb-true}
 use Rattle.board.specs.Layout.{tasks}
 use Rattle.board.specs.Sound.{Between}
-use Rattle.board.specs.Refusals.{within, refuseUnless, refuseFirst, _orElse_, refusalOf}
-use Rattle.board.specs.declared.Verdict.the-variants.{Passed}
-use Rattle.board.proofs.Verdicts.{orElse-passed, refuseUnless-passed}
-use Rattle.board.proofs.Sound.{sound, within-true, refuseFirst-passed}
+use Rattle.refusals.specs.Refusals.{within, refuseUnless, refuseFirst, _orElse_, refusalOf}
+use Rattle.refusals.specs.declared.Verdict.the-variants.{Passed}
+use Rattle.refusals.proofs.Verdicts.{orElse-passed, refuseUnless-passed}
+use Rattle.refusals.proofs.Sound.{sound, within-true, refuseFirst-passed}
 use Rattle.sums.specs.Sums.{bound}
 use Rattle.calls.specs.Refusals.{taskRow, timesRow, scratchRow, tableRow, timeOk, figuresRefusal, overheadRefusal, weighRefusal, analyseRefusal}
 use Rattle.calls.specs.Accepted.{FiguresTaken, OverheadTaken, WeighTaken, AnalyseTaken}

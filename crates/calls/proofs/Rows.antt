@@ -4,9 +4,9 @@ use Prim.Native.Nat.{ℕ}
 use mathlib.Core.Bool.{Bool}
 use mathlib.Core.Path.{_≡_, refl, sym, ap, ap₂, _∙_}
 use lib.Dec.{leb}
-use Rattle.board.specs.Refusals.{refuseUnless, firstBad, refuseFirst, _orElse_}
-use Rattle.board.specs.declared.Verdict.{Verdict}
-use Rattle.board.specs.declared.Verdict.the-variants.{Passed, Refused}
+use Rattle.refusals.specs.Refusals.{refuseUnless, firstBad, refuseFirst, _orElse_}
+use Rattle.refusals.specs.declared.Verdict.{Verdict}
+use Rattle.refusals.specs.declared.Verdict.the-variants.{Passed, Refused}
 
 module _ (u v : Verdict) where
   pub orElse-next : u ≡ Passed → v ≡ (u orElse v)

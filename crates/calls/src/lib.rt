@@ -1,15 +1,15 @@
 // The checks that each call makes of what it takes.
-use board::Verdict;
-use board::check_that;
-use board::or_else;
+use refusals::Verdict;
+use refusals::check_that;
+use refusals::or_else;
 use folds::index;
 ghost use mathlib.Core.Path.{_≡_};
 ghost use Prim.Native.Nat.{_≤_};
 ghost use lib.ListN.{length};
 ghost use Rattle.board.specs.Layout.{tasks};
-ghost use Rattle.board.specs.Refusals.{firstBad, refuseFirst, refusalOf, _orElse_};
+ghost use Rattle.refusals.specs.Refusals.{firstBad, refuseFirst, refusalOf, _orElse_};
 ghost use Rattle.board.specs.Sound.{Sound};
-ghost use Rattle.board.specs.declared.Verdict.the-variants.{Passed};
+ghost use Rattle.refusals.specs.declared.Verdict.the-variants.{Passed};
 ghost use Rattle.calls.specs.Refusals.{timesRow, timeOk, figuresRefusal, overheadRefusal, weighRefusal, analyseRefusal};
 
 // What a board's own rows say, and its tasks: 0 where one of them refuses.
@@ -21,7 +21,7 @@ struct Checked {
 fn board_rows(board: &[u32]) -> Checked
     ensures { λ r. ⌜ (r .verdict ≡ refusalOf (now (board .entry))) × (r .verdict ≡ Passed → r .tasks ≡ tasks (now (board .entry))) × (r .tasks ≤ 64) ⌝ }
 {
-    match board::check(board) {
+    match refusals::check(board) {
         Verdict::Passed => Checked {
             verdict: Verdict::Passed,
             tasks: index(board::fields::tasks(board)),
@@ -93,7 +93,7 @@ fn check_times(board: &[u32], times: &[u32], n: usize) -> Verdict
 pub fn check_weigh(board: &[u32], times: &[u32], i: usize) -> Verdict
     ensures { λ r. ⌜ r ≡ weighRefusal (now (board .entry)) (now (times .entry)) i ⌝ }
 {
-    match board::check(board) {
+    match refusals::check(board) {
         Verdict::Passed => {
             let n = index(board::fields::tasks(board));
             or_else(

@@ -11,7 +11,7 @@ ghost use Prim.Native.Nat.{_/_};
 ghost use lib.ListN.{length};
 ghost use Rattle.folds.specs.Folds.{fillTo};
 ghost use Rattle.board.specs.Layout.{passLimit};
-ghost use Rattle.board.specs.declared.Verdict.the-variants.{Passed};
+ghost use Rattle.refusals.specs.declared.Verdict.the-variants.{Passed};
 ghost use Rattle.answers.specs.Refusals.{figuresRefusal, analyseRefusal};
 ghost use Rattle.answers.specs.Answers.{system, figuresAnswer, overheadAnswer, weighAnswer, analyseAnswer, timesAfter, ScratchAfter};
 ghost use Rattle.analysis.specs.Demand.{Demand3};

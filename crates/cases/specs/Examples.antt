@@ -7,7 +7,7 @@ use lib.ListN.{length, set}
 use Rattle.folds.specs.Folds.{ceilDiv, sumTo, maxTo, countTo, anyTo, firstFrom, tabulate, fillTo, sameList}
 use Rattle.bitset.specs.Bits.{wordOf, wordsOf}
 use Rattle.board.specs.Layout.{firstTrace, firstInstruction}
-use Rattle.board.specs.Refusals.{headerRanges, headerOk, taskRanges, taskOk, workOk, refuseUnless, firstBad, refuseFirst, refusalOf}
+use Rattle.refusals.specs.Refusals.{headerRanges, headerOk, taskRanges, taskOk, workOk, refuseUnless, firstBad, refuseFirst, refusalOf}
 use Rattle.trace.specs.Cache.{firstIn, lastIn, someIn, hits, missCount}
 use Rattle.trace.specs.Traces.{traceOf, loads, tracePD, busLoads, traceMD, evicts, useful, usefulAt, mostUseful}
 use Rattle.figures.specs.Figures.{taskPD, taskMD, evicting, figureOf}

@@ -6,7 +6,7 @@ use native.Mathlib.Omega.{arith}
 use Rattle.folds.proofs.Folds.{maxTo-bound}
 use Rattle.board.specs.Layout.{traceCount, tasks, firstTrace}
 use Rattle.board.specs.Sound.{Sound}
-use Rattle.board.proofs.Sound.{traces-fit}
+use Rattle.board.proofs.Extents.{traces-fit}
 use Rattle.trace.specs.Traces.{traceOf, tracePD, traceMD}
 use Rattle.trace.proofs.Bounds.{tracePD-bound, traceMD-bound}
 use Rattle.figures.specs.Figures.{taskTrace, taskPD, taskMD}

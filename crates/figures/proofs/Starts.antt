@@ -10,7 +10,7 @@ use Rattle.folds.proofs.Folds.{sumTo-none, sumTo-next}
 use Rattle.folds.proofs.Loops.{maxTo-turn}
 use Rattle.board.specs.Layout.{traces, fetchesAt, traceCount, firstTrace, firstInstruction, traceLength}
 use Rattle.board.specs.Sound.{Sound}
-use Rattle.board.proofs.Sound.{traces-fit, trace-fits}
+use Rattle.board.proofs.Extents.{traces-fit, trace-fits}
 use Rattle.trace.specs.Traces.{Trace, traceOf}
 use Rattle.trace.specs.Places.{traceAt, Lies}
 use Rattle.trace.proofs.Places.{trace-lies, traceOf-is}

@@ -1,6 +1,6 @@
 // Reads boards from standard input, one to a line, and prints of each the figures, a line a task (its number, core, T, D, PD, MD and the words
 // of its ECB), and the overheads: from the table, a line a task i, and once more those of the last task, each by a call of its own.
-use board::Verdict;
+use refusals::Verdict;
 use board::fields;
 use figures::survey::overhead;
 use figures::survey::survey;
@@ -42,7 +42,7 @@ fn one_line(text: &[u8], from: usize) -> usize
 }
 
 fn answer(words: &[u32]) {
-    match board::check(words) {
+    match refusals::check(words) {
         Verdict::Passed => {
             print_board(words);
         }

@@ -1,7 +1,7 @@
--- Laws of numbers, of division rounded up, and of what counts only where a test holds.
+-- Laws of numbers and tests, of division rounded up, and of what counts only where a test holds.
 -- Assumes nothing.
 use Prim.Native.Nat.{ℕ, zero, suc, _+_, _-_, _*_, _/_, _≤_, _<_, min, zero-le}
-use mathlib.Core.Bool.{Bool, true, false, _&&_}
+use mathlib.Core.Bool.{Bool, true, false, _&&_, false≢true}
 use mathlib.Core.Logic.{_⊎_, inl, inr, ⊎-elim}
 use mathlib.Core.Path.{_≡_, refl, sym, subst, _∙_}
 use native.Mathlib.Decide.{decLe, ℕ-discrete}
@@ -17,6 +17,11 @@ le-or-lt a b = elim (decLe a b) [ yes h ↦ inl h | no h ↦ inr (lt-of-not-le h
 -- what holds below n and at n holds below n + 1
 pub below-suc : (P : ℕ → Type 0) (n : ℕ) → ((k : ℕ) → k < n → P k) → P n → (k : ℕ) → k < suc n → P k
 below-suc P n all here k l = ⊎-elim (λ e. subst P (sym e) here) (λ lt. all k lt) (eq-or-lt-of-le (le-of-suc-le-suc l))
+
+-- two tests that both hold
+pub and-both : (s t : Bool) → (s && t) ≡ true → (s ≡ true) × (t ≡ true)
+and-both true t e = (refl, e)
+and-both false t e = absurd (false≢true e)
 
 -- two tests for equality that hold together
 pub eqb-iff : (a b c d : ℕ) → (a ≡ b → c ≡ d) → (c ≡ d → a ≡ b) → eqb a b ≡ eqb c d

@@ -11,10 +11,10 @@ use lib.ListN.{length, take, set}
 use lib.Seq.{take-suc-set}
 use borrow.Author.Tests.{leb-true}
 use Rattle.folds.specs.Folds.{tabulate}
-use Rattle.board.specs.Refusals.{refuseUnless}
-use Rattle.board.specs.declared.Verdict.the-variants.{Passed, Refused}
-use Rattle.board.proofs.Verdicts.{refuseUnless-passed}
-use Rattle.board.proofs.Sound.{and-true}
+use Rattle.refusals.specs.Refusals.{refuseUnless}
+use Rattle.refusals.specs.declared.Verdict.the-variants.{Passed, Refused}
+use Rattle.refusals.proofs.Verdicts.{refuseUnless-passed}
+use Rattle.folds.proofs.Numbers.{and-both}
 use Rattle.input.specs.Input.{bytesRead, inputRefusal}
 
 -- a list whose first k elements are tabulated, with one more stored
@@ -35,5 +35,5 @@ inputRefusal-is bytes count test e h = rw (← h, e)
 pub inputRefusal-passed : (bytes : List ℕ) → inputRefusal bytes ≡ Passed → length bytes ≤ 65536
 unfolding inputRefusal
 inputRefusal-passed bytes e =
-    let both = and-true (leb (bytesRead bytes) 65536) (eqb (bytesRead bytes % 4) 0) (refuseUnless-passed 15 (whole (bytesRead bytes)) (bytesRead bytes) e) in
+    let both = and-both (leb (bytesRead bytes) 65536) (eqb (bytesRead bytes % 4) 0) (refuseUnless-passed 15 (whole (bytesRead bytes)) (bytesRead bytes) e) in
     omega (arith, leb-true (bytesRead bytes) 65536 (both .0))

@@ -8,12 +8,12 @@ use lib.Dec.{leb}
 use lib.ListN.{length}
 use borrow.Author.Tests.{leb-true}
 use Rattle.board.specs.Layout.{tasks}
-use Rattle.board.specs.Refusals.{refusalOf, _orElse_}
+use Rattle.refusals.specs.Refusals.{refusalOf, _orElse_}
 use Rattle.board.specs.Sound.{Sound}
-use Rattle.board.specs.declared.Verdict.{Verdict}
-use Rattle.board.specs.declared.Verdict.the-variants.{Passed, Refused as Verdict·Refused}
-use Rattle.board.proofs.Verdicts.{orElse-passed, refuseUnless-passed}
-use Rattle.board.proofs.Sound.{sound}
+use Rattle.refusals.specs.declared.Verdict.{Verdict}
+use Rattle.refusals.specs.declared.Verdict.the-variants.{Passed, Refused as Verdict·Refused}
+use Rattle.refusals.proofs.Verdicts.{orElse-passed, refuseUnless-passed}
+use Rattle.refusals.proofs.Sound.{sound}
 use Rattle.answers.specs.Refusals.{timesRow, scratchRow, tableRow, analyseRefusal}
 use Rattle.answers.specs.Answers.{answerBy, analyseAnswer, timesAfter}
 use Rattle.answers.specs.declared.Answer.{Answer}

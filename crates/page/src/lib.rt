@@ -5,13 +5,13 @@ ghost use mathlib.Core.Path.{_≡_};
 ghost use Prim.Native.Nat.{_≤_};
 ghost use lib.ListN.{length, take, drop};
 ghost use Rattle.io.specs.Counts.{Counts};
-ghost use Rattle.board.specs.declared.Verdict.the-variants.{Passed};
+ghost use Rattle.refusals.specs.declared.Verdict.the-variants.{Passed};
 ghost use Rattle.input.specs.Input.{inputRefusal};
 ghost use Rattle.text.specs.Buffer.{Put};
 ghost use Rattle.page.specs.Page.{boardPage, pageOf};
 use answer::answer_page;
 use answer::pair_line;
-use board::Verdict;
+use refusals::Verdict;
 use input::decode;
 use input::refusal;
 

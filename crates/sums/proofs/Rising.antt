@@ -18,7 +18,7 @@ use Rattle.folds.specs.Folds.{ceilDiv}
 use Rattle.folds.proofs.Numbers.{Shorter, shorter-same, div-rise, ceilDiv-rise, ceilDiv-mono}
 use Rattle.folds.proofs.Folds.{sumWhere-rise}
 use Rattle.board.specs.Layout.{word, cores, tasks, bus, slotsEach, slots, accessCycles, refresh, refreshInterval, refreshRows, refreshCycles, core, period}
-use Rattle.board.proofs.Sound.{and-true}
+use Rattle.folds.proofs.Numbers.{and-both}
 use Rattle.figures.specs.Figures.{taskPD}
 use Rattle.sums.specs.Sums.{lowest, releases, memoryDemand, overCores, window, ownAccesses, carryIn, coreAccesses, lowerAccesses, interference, busAccesses, refreshes, higherWork, taskSum}
 use Rattle.sums.proofs.Numbers.{product-cong}
@@ -136,7 +136,7 @@ module _ (b b' R R' : List ℕ) (i : ℕ) (heavier : Heavier b b') (task : i < t
     lowerAccesses-mono y off =
         sumWhere-rise (λ k. ltb i k && eqb (core b k) y) (λ k. ltb i k && eqb (core b' k) y) _ _ _ _ (le-of-eq same-tasks)
         (λ k l e.
-        let on = and-true (ltb i k) (eqb (core b k) y) e in (
+        let on = and-both (ltb i k) (eqb (core b k) y) e in (
           sym (ap (λ (x : ℕ). ltb i k && eqb x y) (heavier .cores k l)) ∙ e,
           subst (λ (n : ℕ). carryIn b R i (lowest b) k ≤ carryIn b' R' i (n - 1) k) same-tasks
               (carryIn-mono (lowest b) k (omega arith) l (λ same. off (sym (eqb-true (core b k) y (on .1)) ∙ same))),

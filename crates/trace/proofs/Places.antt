@@ -6,7 +6,7 @@ use mathlib.Core.Path.{_≡_, refl, ap, subst}
 use native.Mathlib.Omega.{arith}
 use Rattle.board.specs.Layout.{word, instructions, traces, fetchesAt, worksAt, firstInstruction, traceLength, kindOf, blockOf}
 use Rattle.board.specs.Sound.{Sound}
-use Rattle.board.proofs.Sound.{trace-fits}
+use Rattle.board.proofs.Extents.{trace-fits}
 use Rattle.trace.specs.Traces.{traceOf, fetch, work, dataBlock}
 use Rattle.trace.specs.Places.{traceAt, Lies}
 

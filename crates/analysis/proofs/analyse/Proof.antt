@@ -13,8 +13,8 @@ use Rattle.figures.proofs.fill.Symbol as fill-def
 use Rattle.figures.proofs.fill.Symbol.{name as #figures·fill}
 use Rattle.figures.proofs.fill.Met as fill-thm
 use Rattle.board.specs.Layout.{tasks, passLimit}
-use Rattle.board.specs.declared.Verdict.{Verdict}
-use Rattle.board.specs.declared.Verdict.the-variants.{Passed}
+use Rattle.refusals.specs.declared.Verdict.{Verdict}
+use Rattle.refusals.specs.declared.Verdict.the-variants.{Passed}
 use Rattle.scratch.specs.Scratch.{Room, Prepared}
 use Rattle.calls.proofs.Accepted.{analyse-taken}
 use Rattle.answers.specs.Refusals.{analyseRefusal}

@@ -3,7 +3,7 @@
 use mathlib.Core.Path.{_≡_, sym, _∙_}
 use lib.ListN.{length}
 use borrow.Author.Needs.{needs}
-use Rattle.board.specs.declared.Verdict.the-variants.{Passed}
+use Rattle.refusals.specs.declared.Verdict.the-variants.{Passed}
 use Rattle.calls.specs.Accepted.{AnalyseTaken}
 use Rattle.calls.proofs.Accepted.{analyse-taken}
 use Rattle.answers.specs.Answers.{answerBy, analyseAnswer}

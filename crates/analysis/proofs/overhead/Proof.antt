@@ -3,7 +3,7 @@
 use mathlib.Core.Path.{_≡_, sym, _∙_}
 use native.Mathlib.Omega.{arith}
 use borrow.Author.Needs.{needs}
-use Rattle.board.specs.declared.Verdict.the-variants.{Passed}
+use Rattle.refusals.specs.declared.Verdict.the-variants.{Passed}
 use Rattle.calls.proofs.Accepted.{overhead-taken}
 use Rattle.answers.specs.Refusals.{overheadRefusal}
 use Rattle.answers.specs.Answers.{overheadAnswer}

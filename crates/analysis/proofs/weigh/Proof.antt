@@ -2,7 +2,7 @@
 -- Assumes nothing.
 use mathlib.Core.Path.{_≡_, sym, _∙_}
 use borrow.Author.Needs.{needs}
-use Rattle.board.specs.declared.Verdict.the-variants.{Passed}
+use Rattle.refusals.specs.declared.Verdict.the-variants.{Passed}
 use Rattle.calls.proofs.Accepted.{weigh-taken}
 use Rattle.answers.specs.Refusals.{weighRefusal}
 use Rattle.answers.specs.Answers.{weighAnswer}

@@ -4,9 +4,9 @@ use Prim.Native.Nat.{ℕ, zero-le}
 use mathlib.Core.Path.{_≡_, sym, _∙_}
 use native.Mathlib.Omega.{arith}
 use borrow.Author.Needs.{needs}
-use Rattle.board.specs.Refusals.{refusalOf}
-use Rattle.board.specs.declared.Verdict.the-variants.{Passed, Refused}
-use Rattle.board.proofs.Sound.{sound}
+use Rattle.refusals.specs.Refusals.{refusalOf}
+use Rattle.refusals.specs.declared.Verdict.the-variants.{Passed, Refused}
+use Rattle.refusals.proofs.Sound.{sound}
 use Rattle.calls.proofs.board_rows.Statement.{statement}
 use Rattle.calls.proofs.board_rows.Tie as tie
 

@@ -4,7 +4,7 @@ use Prim.Native.Nat.{ℕ, _+_, _*_, _≤_}
 use mathlib.Core.Path.{_≡_, ap, _∙_}
 use lib.Dec.{leb}
 use borrow.Author.Needs.{needs}
-use Rattle.board.specs.Refusals.{refuseUnless}
+use Rattle.refusals.specs.Refusals.{refuseUnless}
 use Rattle.calls.specs.Refusals.{analyseRefusal}
 use Rattle.calls.proofs.Rows.{orElse-both, board-then}
 use Rattle.calls.proofs.check_analyse.Statement.{statement}

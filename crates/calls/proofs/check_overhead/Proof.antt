@@ -3,7 +3,7 @@
 use Prim.Native.Nat.{ℕ}
 use mathlib.Core.Path.{_≡_, ap, _∙_}
 use borrow.Author.Needs.{needs}
-use Rattle.board.specs.Refusals.{within, refuseUnless}
+use Rattle.refusals.specs.Refusals.{within, refuseUnless}
 use Rattle.calls.specs.Refusals.{overheadRefusal}
 use Rattle.calls.proofs.Rows.{orElse-both, board-then}
 use Rattle.calls.proofs.check_overhead.Statement.{statement}

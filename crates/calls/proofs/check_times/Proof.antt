@@ -6,7 +6,7 @@ use lib.ListN.{length}
 use borrow.Author.Needs.{needs}
 use borrow.Author.Tests.{le-leb, lt-leb}
 use Rattle.board.specs.Layout.{tasks}
-use Rattle.board.proofs.Verdicts.{refuseUnless-true, refuseUnless-false}
+use Rattle.refusals.proofs.Verdicts.{refuseUnless-true, refuseUnless-false}
 use Rattle.calls.specs.Refusals.{timeOk}
 use Rattle.calls.proofs.Rows.{orElse-next, orElse-refused, refuseFirst-is}
 use Rattle.calls.proofs.check_times.Statement.{statement}

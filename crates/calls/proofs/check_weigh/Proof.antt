@@ -3,9 +3,9 @@
 use Prim.Native.Nat.{ℕ}
 use mathlib.Core.Path.{_≡_, sym, ap, _∙_}
 use borrow.Author.Needs.{needs}
-use Rattle.board.specs.Refusals.{within, refuseUnless, refusalOf}
-use Rattle.board.specs.declared.Verdict.the-variants.{Passed}
-use Rattle.board.proofs.Sound.{sound}
+use Rattle.refusals.specs.Refusals.{within, refuseUnless, refusalOf}
+use Rattle.refusals.specs.declared.Verdict.the-variants.{Passed}
+use Rattle.refusals.proofs.Sound.{sound}
 use Rattle.calls.specs.Refusals.{weighRefusal}
 use Rattle.calls.proofs.Rows.{orElse-next, orElse-refused, orElse-both}
 use Rattle.calls.proofs.check_weigh.Statement.{statement}

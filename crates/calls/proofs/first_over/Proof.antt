@@ -7,8 +7,8 @@ use lib.ListN.{getD}
 use borrow.Author.Needs.{needs}
 use borrow.Author.Tests.{le-leb, lt-leb}
 use Rattle.sums.specs.Sums.{bound}
-use Rattle.board.specs.Refusals.{firstBad}
-use Rattle.board.proofs.Searches.{firstBad-pass, firstBad-stop, firstBad-end}
+use Rattle.refusals.specs.Refusals.{firstBad}
+use Rattle.refusals.proofs.Searches.{firstBad-pass, firstBad-stop, firstBad-end}
 use Rattle.calls.specs.Refusals.{timeOk}
 use Rattle.calls.proofs.first_over.Statement.{statement}
 use Rattle.calls.proofs.first_over.Tie as tie

@@ -5,7 +5,7 @@ use mathlib.Core.Path.{_≡_, refl, sym, ap, _∙_}
 use native.Mathlib.Omega.{arith}
 use lib.ListN.{length}
 use borrow.Author.Needs.{needs}
-use Rattle.board.specs.declared.Verdict.the-variants.{Passed}
+use Rattle.refusals.specs.declared.Verdict.the-variants.{Passed}
 use Rattle.calls.specs.Accepted.{AnalyseTaken}
 use Rattle.calls.proofs.Accepted.{analyse-taken}
 use Rattle.answers.specs.Answers.{answerBy, analyseAnswer, timesAfter}

@@ -5,7 +5,7 @@ use native.Mathlib.Omega.{arith}
 use lib.ListN.{length}
 use borrow.Author.Needs.{needs}
 use Rattle.board.specs.Layout.{tasks}
-use Rattle.board.specs.declared.Verdict.the-variants.{Passed}
+use Rattle.refusals.specs.declared.Verdict.the-variants.{Passed}
 use Rattle.calls.specs.Accepted.{FiguresTaken}
 use Rattle.calls.proofs.Accepted.{figures-taken}
 use Rattle.answers.specs.Answers.{unlessRefused, figuresAnswer}

@@ -2,9 +2,9 @@
 use mathlib.Core.Path.{_≡_}
 use denote.Ref.{now}
 use borrow.Author.Needs.{needs}
-use Rattle.board.specs.Refusals.{refusalOf}
-use Rattle.board.specs.declared.Verdict.the-variants.{Passed}
-use Rattle.board.proofs.Sound.{sound}
+use Rattle.refusals.specs.Refusals.{refusalOf}
+use Rattle.refusals.specs.declared.Verdict.the-variants.{Passed}
+use Rattle.refusals.proofs.Sound.{sound}
 use Rattle.figures_cases.proofs.answer.Statement.{statement}
 use Rattle.figures_cases.proofs.answer.Tie as tie
 

@@ -1,0 +1,167 @@
+-- A board that passes rows 1 to 9 is `Sound`.
+-- Assumes nothing.
+use Prim.Native.Nat.{ℕ, _+_, _*_, _-_, _≤_, _<_}
+use mathlib.Core.Path.{_≡_, refl, subst, _∙_}
+use mathlib.Core.Bool.{Bool, true, false, cond, _&&_, false≢true}
+use mathlib.Core.List.{List}
+use native.Mathlib.Omega.{arith}
+use borrow.Author.Tests.{leb-true, ltb-true, eqb-true, eqb-false, ne-eqb, le-leb, lt-leb}
+use lib.Dec.{leb, eqb}
+use lib.ListN.{length, getD}
+use Rattle.folds.proofs.Numbers.{and-both}
+use Rattle.board.specs.Layout as at
+use Rattle.board.specs.Layout.{word, boardWords, kindOf, blockOf}
+use Rattle.refusals.specs.Refusals.{within, isZero, rangeIf, headerRanges, headerOk, taskRanges, taskOk, lengthOk, fetchOk, workOk, refuseUnless, firstBad, refuseFirst, _orElse_, refusalOf}
+use Rattle.board.specs.Sound.{Between, Sound}
+use Rattle.refusals.specs.declared.Verdict.{Verdict}
+use Rattle.refusals.specs.declared.Verdict.the-variants.{Passed}
+use Rattle.refusals.proofs.Searches.{firstBad-all}
+use Rattle.refusals.proofs.Rows.{headerSpare, taskRow}
+use Rattle.refusals.proofs.Verdicts.{orElse-passed, refuseUnless-passed}
+
+-- from tests to facts
+pub within-true : (low high x : ℕ) → within low high x ≡ true → Between low high x
+within-true low high x e =
+    let both = and-both (leb low x) (leb x high) e in
+    (leb-true low x (both .0), leb-true x high (both .1))
+
+used : (t : Bool) (low high x : ℕ) → t ≡ true → rangeIf t low high x ≡ true → Between low high x
+used t low high x u e = within-true low high x (subst (λ (s : Bool). rangeIf s low high x ≡ true) u e)
+
+unused : (t : Bool) (low high x : ℕ) → t ≡ false → rangeIf t low high x ≡ true → x ≡ 0
+unused t low high x u e = eqb-true x 0 (subst (λ (s : Bool). rangeIf s low high x ≡ true) u e)
+
+bounded : (t : Bool) (high x : ℕ) → rangeIf t 0 high x ≡ true → x ≤ high
+bounded true high x e = within-true 0 high x e .1
+bounded false high x e =
+    let none : x ≡ 0 = eqb-true x 0 e in
+    omega arith
+
+-- word 13
+abbrev pub codeOrSets : ℕ → ℕ → Bool
+codeOrSets m x = cond (eqb m 2) (within 1 256 x) (rangeIf (eqb m 1) 0 32768 x)
+
+held-code : (m x : ℕ) → m ≡ 1 → codeOrSets m x ≡ true → x ≤ 32768
+held-code m x h e = within-true 0 32768 x (subst (λ (k : ℕ). codeOrSets k x ≡ true) h e) .1
+
+cache-sets : (m x : ℕ) → m ≡ 2 → codeOrSets m x ≡ true → Between 1 256 x
+cache-sets m x h e = within-true 1 256 x (subst (λ (k : ℕ). codeOrSets k x ≡ true) h e)
+
+no-memory : (m x : ℕ) → m ≡ 0 → codeOrSets m x ≡ true → x ≡ 0
+no-memory m x h e = eqb-true x 0 (subst (λ (k : ℕ). codeOrSets k x ≡ true) h e)
+
+abbrev pub WorkOk : ℕ → Type 0
+WorkOk w = cond (eqb (kindOf w) 0) (eqb (blockOf w) 0) (leb (kindOf w) 2 && leb 32768 (blockOf w)) ≡ true
+
+work-true : (w : ℕ) → WorkOk w → (kindOf w ≤ 2) × (kindOf w ≡ 0 → blockOf w ≡ 0) × (1 ≤ kindOf w → 32768 ≤ blockOf w)
+work-true w e = go (eqb (kindOf w) 0) refl e
+  where
+    go : (t : Bool) → eqb (kindOf w) 0 ≡ t → cond t (eqb (blockOf w) 0) (leb (kindOf w) 2 && leb 32768 (blockOf w)) ≡ true → (kindOf w ≤ 2) × (kindOf w ≡ 0 → blockOf w ≡ 0) × (1 ≤ kindOf w → 32768 ≤ blockOf w)
+    go true k f =
+        let kind : kindOf w ≡ 0 = eqb-true _ 0 k in
+        (omega arith, (λ _. eqb-true _ 0 f), λ h. absurd (omega arith))
+    go false k f =
+        let both = and-both (leb (kindOf w) 2) (leb 32768 (blockOf w)) f in
+        (leb-true _ 2 (both .0), (λ h. absurd (eqb-false _ 0 k h)), λ _. leb-true 32768 _ (both .1))
+
+-- from rows that pass to tests
+pub refuseFirst-passed : (number : ℕ) (test : ℕ → Bool) (from end : ℕ) → refuseFirst number test from end ≡ Passed
+    → (i : ℕ) → from ≤ i → i < end → test i ≡ true
+unfolding refuseFirst
+refuseFirst-passed number test from end e i l u =
+    firstBad-all test from end (leb-true end (firstBad test from end) (refuseUnless-passed number _ _ e)) i l u
+
+nine : (r1 r2 r3 r4 r5 r6 r7 r8 r9 : Verdict) → (r1 orElse r2 orElse r3 orElse r4 orElse r5 orElse r6 orElse r7 orElse r8 orElse r9) ≡ Passed
+    → (r1 ≡ Passed) × (r2 ≡ Passed) × (r3 ≡ Passed) × (r4 ≡ Passed) × (r5 ≡ Passed) × (r6 ≡ Passed) × (r7 ≡ Passed) × (r8 ≡ Passed) × (r9 ≡ Passed)
+nine r1 r2 r3 r4 r5 r6 r7 r8 r9 e =
+    let a = orElse-passed r1 (r2 orElse r3 orElse r4 orElse r5 orElse r6 orElse r7 orElse r8 orElse r9) e in
+    let b = orElse-passed r2 (r3 orElse r4 orElse r5 orElse r6 orElse r7 orElse r8 orElse r9) (a .1) in
+    let c = orElse-passed r3 (r4 orElse r5 orElse r6 orElse r7 orElse r8 orElse r9) (b .1) in
+    let d = orElse-passed r4 (r5 orElse r6 orElse r7 orElse r8 orElse r9) (c .1) in
+    let f = orElse-passed r5 (r6 orElse r7 orElse r8 orElse r9) (d .1) in
+    let g = orElse-passed r6 (r7 orElse r8 orElse r9) (f .1) in
+    let h = orElse-passed r7 (r8 orElse r9) (g .1) in
+    let i = orElse-passed r8 r9 (h .1) in
+    (a .0, b .0, c .0, d .0, f .0, g .0, h .0, i .0, i .1)
+
+module _ (b : List ℕ) (e : refusalOf b ≡ Passed) where
+  rows :
+      (refuseUnless 1 (within 20 16384 (length b)) (length b) ≡ Passed)
+      × (refuseFirst 2 (headerOk b) 0 20 ≡ Passed)
+      × (refuseUnless 3 (eqb (length b) (boardWords b)) (boardWords b) ≡ Passed)
+      × (refuseFirst 4 (taskOk b) 20 (at.lengthsAt b) ≡ Passed)
+      × (refuseUnless 5 (eqb (at.firstTrace b (at.tasks b)) (at.traces b)) 20 ≡ Passed)
+      × (refuseFirst 6 (lengthOk b) (at.lengthsAt b) (at.fetchesAt b) ≡ Passed)
+      × (refuseUnless 7 (eqb (at.firstInstruction b (at.traces b)) (at.instructions b)) (at.lengthsAt b) ≡ Passed)
+      × (refuseFirst 8 (fetchOk b) (at.fetchesAt b) (at.worksAt b) ≡ Passed)
+      × (refuseFirst 9 (workOk b) (at.worksAt b) (boardWords b) ≡ Passed)
+  unfolding refusalOf
+  rows = nine _ _ _ _ _ _ _ _ _ e
+
+  size : Between 20 16384 (length b)
+  size = within-true 20 16384 (length b) (refuseUnless-passed 1 _ _ (rows .0))
+
+  -- word i of the header passes its test
+  header : (i : ℕ) → i < 20 → headerOk b i ≡ true
+  header i l = refuseFirst-passed 2 (headerOk b) 0 20 (rows .1) i (omega arith) l
+
+  spare-word : (i : ℕ) → 15 ≤ i → i < 20 → word b i ≡ 0
+  spare-word i l u = eqb-true _ 0 (headerSpare b i l ∙ header i u)
+
+  -- field f of task k passes its test
+  task : (k f : ℕ) → k < at.tasks b → f < 5 → taskOk b (20 + 5 * k + f) ≡ true
+  task k f l u = refuseFirst-passed 4 (taskOk b) 20 (at.lengthsAt b) (rows .3) (20 + 5 * k + f) (omega arith) (omega arith)
+
+  field : (k f : ℕ) → k < at.tasks b → f < 5 → getD (taskRanges b (20 + 5 * k + f)) f isZero (word b (20 + 5 * k + f)) ≡ true
+  field k f l u = taskRow b (20 + 5 * k + f) (omega arith) ∙ task k f l u
+
+  work : (p : ℕ) → p < at.instructions b → WorkOk (word b (at.worksAt b + p))
+  unfolding workOk
+  work p l = refuseFirst-passed 9 (workOk b) (at.worksAt b) (boardWords b) (rows .8) (at.worksAt b + p) (omega arith) (omega arith)
+
+  pub sound : Sound b
+  unfolding headerOk headerRanges taskRanges
+  sound = record {
+    small = size .1;
+    words = eqb-true _ _ (refuseUnless-passed 3 _ _ (rows .2));
+    cores = within-true 1 8 _ (header 0 (omega arith));
+    tasks = within-true 1 64 _ (header 1 (omega arith));
+    traces = within-true 1 512 _ (header 2 (omega arith));
+    instructions = within-true 1 8192 _ (header 3 (omega arith));
+    memory = within-true 0 2 _ (header 4 (omega arith)) .1;
+    bus = within-true 0 4 _ (header 5 (omega arith)) .1;
+    slots = λ h. used (leb 3 (at.bus b)) 1 8 _ (le-leb 3 _ h) (header 6 (omega arith));
+    noSlots = λ h. unused (leb 3 (at.bus b)) 1 8 _ (lt-leb 3 _ h) (header 6 (omega arith));
+    access = within-true 1 255 _ (header 7 (omega arith));
+    refresh = within-true 0 2 _ (header 8 (omega arith)) .1;
+    interval = λ h. used (leb 1 (at.refresh b)) 1 268435455 _ (le-leb 1 _ h) (header 9 (omega arith));
+    rows = λ h. used (leb 1 (at.refresh b)) 1 65535 _ (le-leb 1 _ h) (header 10 (omega arith));
+    refreshCycles = bounded (leb 1 (at.refresh b)) 255 _ (header 11 (omega arith));
+    noRefresh = λ h. (
+      unused (leb 1 (at.refresh b)) 1 268435455 _ (lt-leb 1 _ h) (header 9 (omega arith)),
+      unused (leb 1 (at.refresh b)) 1 65535 _ (lt-leb 1 _ h) (header 10 (omega arith)),
+      unused (leb 1 (at.refresh b)) 0 255 _ (lt-leb 1 _ h) (header 11 (omega arith)),
+    );
+    limit = leb-true 1 _ (header 12 (omega arith));
+    held = λ m. held-code _ (word b 13) m (header 13 (omega arith));
+    heldData = bounded (eqb (at.memory b) 1) 32768 _ (header 14 (omega arith));
+    sets = λ m. cache-sets _ (word b 13) m (header 13 (omega arith));
+    noMemory = λ m. no-memory _ (word b 13) m (header 13 (omega arith));
+    noHeldData = λ h. unused (eqb (at.memory b) 1) 0 32768 _ (ne-eqb _ 1 h) (header 14 (omega arith));
+    spare = spare-word;
+    core = λ k l. within-true 1 (at.cores b) _ (field k 0 l (omega arith));
+    period = λ k l. within-true 1 268435455 _ (field k 1 l (omega arith));
+    deadline = λ k l.
+        let before : 20 + 5 * k + 2 - 1 ≡ 20 + 5 * k + 1 = omega arith in
+        subst (λ (i : ℕ). Between 1 (word b i) (at.deadline b k)) before
+        (within-true 1 _ _ (field k 2 l (omega arith)));
+    traceCount = λ k l. within-true 1 8 _ (field k 3 l (omega arith));
+    taskSpare = λ k l. eqb-true _ 0 (field k 4 l (omega arith));
+    traceSum = eqb-true _ _ (refuseUnless-passed 5 _ _ (rows .4));
+    traceLength = λ t l. within-true 1 1024 _ (refuseFirst-passed 6 (lengthOk b) (at.lengthsAt b) (at.fetchesAt b) (rows .5) (at.lengthsAt b + t) (omega arith) (omega arith));
+    lengthSum = eqb-true _ _ (refuseUnless-passed 7 _ _ (rows .6));
+    fetch = λ p l. ltb-true _ 32768 (refuseFirst-passed 8 (fetchOk b) (at.fetchesAt b) (at.worksAt b) (rows .7) (at.fetchesAt b + p) (omega arith) (omega arith));
+    kind = λ p l. work-true _ (work p l) .0;
+    execute = λ p l. work-true _ (work p l) .1;
+    data-block = λ p l. work-true _ (work p l) .2;
+  }

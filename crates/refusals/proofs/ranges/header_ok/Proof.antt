@@ -1,0 +1,35 @@
+-- `board::ranges::header_ok` meets its contract: in each arm the word's index is known, and its entry of `headerRanges` is the arm's test.
+-- Assumes nothing.
+use borrow.Author.Needs.{needs}
+use mathlib.Core.Path.{_∙_}
+use Rattle.refusals.specs.Refusals.{headerRanges}
+use Rattle.refusals.proofs.Rows.{headerRow, setsRow, heldRow, headerSpare, avoids}
+use Rattle.refusals.proofs.ranges.header_ok.Statement.{statement}
+use Rattle.refusals.proofs.ranges.header_ok.Tie as tie
+
+pub header-ok-spec : {M : Type 1} → statement M
+unfolding headerRanges
+header-ok-spec =
+    tie.close
+    (tie.spec
+    (λ c. search needs) (λ c. search needs) (λ c. search needs) (λ c. search needs) (λ c. search needs)
+    (λ c κs. search needs) (λ c κs. search needs) (λ c κs. search needs) (λ c κs. search needs) (λ c κs. search needs)
+    (λ c κs. search needs) (λ c κs. search needs) (λ c κs. search needs) (λ c κs. search needs) (λ c κs. search needs)
+    (λ c κs. search needs) (λ c κs. search needs) (λ c κs. search needs) (λ c κs. search needs) (λ c κs. search needs)
+    (λ c. c .within .ensures ∙ headerRow (c .before .before .before .before .before .before .before .args .board .now) (c .before .match .keys1))
+    (λ c. c .within2 .ensures ∙ headerRow (c .before .before .before .before .before .before .before .args .board .now) (c .before .match .keys2))
+    (λ c. c .within3 .ensures ∙ headerRow (c .before .before .before .before .before .before .before .args .board .now) (c .before .match .keys3))
+    (λ c. c .within4 .ensures ∙ headerRow (c .before .before .before .before .before .before .before .args .board .now) (c .before .match .keys4))
+    (λ c. c .within5 .ensures ∙ headerRow (c .before .before .before .before .before .before .before .args .board .now) (c .before .match .keys5))
+    (λ c. c .within6 .ensures ∙ headerRow (c .before .before .before .before .before .before .before .args .board .now) (c .before .match .keys6))
+    (λ c. c .range-if .ensures ∙ headerRow (c .before .before .before .before .before .before .before .args .board .now) (c .before .match .keys7))
+    (λ c. c .within7 .ensures ∙ headerRow (c .before .before .before .before .before .before .before .args .board .now) (c .before .match .keys8))
+    (λ c. c .within8 .ensures ∙ headerRow (c .before .before .before .before .before .before .before .args .board .now) (c .before .match .keys9))
+    (λ c. c .range-if2 .ensures ∙ headerRow (c .before .before .before .before .before .before .before .args .board .now) (c .before .match .keys10))
+    (λ c. c .range-if3 .ensures ∙ headerRow (c .before .before .before .before .before .before .before .args .board .now) (c .before .match .keys11))
+    (λ c. c .range-if4 .ensures ∙ headerRow (c .before .before .before .before .before .before .before .args .board .now) (c .before .match .keys12))
+    (λ c. headerRow (c .before .before .before .before .before .before .args .board .now) (c .match .keys13))
+    (λ c. c .within9 .ensures ∙ setsRow (c .before .before .before .before .before .before .before .before .args .board .now) (c .before .before .match .keys14) (c .before .if1 .taken))
+    (λ c. c .range-if5 .ensures ∙ heldRow (c .before .before .before .before .before .before .before .before .args .board .now) (c .before .before .match .keys14) (c .before .if1 .left))
+    (λ c. c .range-if6 .ensures ∙ headerRow (c .before .before .before .before .before .before .before .args .board .now) (c .before .match .keys15))
+    (λ c. headerSpare (c .before .before .before .before .before .before .args .board .now) _ (avoids _ 15 (c .match .rest))))

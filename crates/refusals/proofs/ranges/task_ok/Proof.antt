@@ -1,0 +1,34 @@
+-- `board::ranges::task_ok` meets its contract: in each arm the word's field is known, and its row of `taskRanges` is the arm's test.
+-- Assumes nothing.
+use mathlib.Core.Path.{_∙_}
+use borrow.Author.Needs.{needs}
+use Rattle.refusals.specs.Refusals.{taskRanges}
+use Rattle.refusals.proofs.Rows.{taskRow, taskSpare, avoids}
+use Rattle.refusals.proofs.ranges.task_ok.Statement.{statement}
+use Rattle.refusals.proofs.ranges.task_ok.Tie as tie
+
+pub task-ok-spec : {M : Type 1} → statement M
+unfolding taskRanges
+task-ok-spec =
+    tie.close
+    (tie.spec
+    (λ c. search needs)
+    (λ c. search needs)
+    (λ c. search needs)
+    (λ c κs. search needs)
+    (λ c κs. search needs)
+    (λ c. search needs)
+    (λ c. search needs)
+    (λ c. search needs)
+    (λ c κs. search needs)
+    (λ c κs. search needs)
+    (λ c. let a = c .before .before .before .before .before .args in
+    c .within .ensures ∙ taskRow (a .board .now) (a .i) (c .before .before .match .keys1))
+    (λ c. let a = c .before .before .before .before .args in
+    c .within2 .ensures ∙ taskRow (a .board .now) (a .i) (c .before .match .keys2))
+    (λ c. let a = c .before .before .before .before .before .args in
+    c .within3 .ensures ∙ taskRow (a .board .now) (a .i) (c .before .before .match .keys3))
+    (λ c. let a = c .before .before .before .before .args in
+    c .within4 .ensures ∙ taskRow (a .board .now) (a .i) (c .before .match .keys4))
+    (λ c. let a = c .before .before .before .args in
+    taskSpare (a .board .now) (a .i) (avoids _ 4 (c .match .rest))))

@@ -1,0 +1,19 @@
+-- `board::ranges::work_ok` meets its contract: the arm of the kind says which case of `workOk` holds.
+-- Assumes nothing.
+use native.Mathlib.Nat.{le-of-suc-le-suc}
+use borrow.Author.Needs.{needs}
+use borrow.Author.Tests.{eq-eqb, ne-eqb, le-leb, lt-leb}
+use Rattle.refusals.specs.Refusals.{workOk}
+use Rattle.refusals.proofs.ranges.work_ok.Statement.{statement}
+use Rattle.refusals.proofs.ranges.work_ok.Tie as tie
+
+pub work-ok-spec : {M : Type 1} → statement M
+unfolding workOk
+work-ok-spec =
+    tie.close
+    (tie.spec
+    (λ c. search needs)
+    (λ c. search needs)
+    (λ c. simp (eq-eqb _ _ (c .match .keys1)))
+    (λ c. simp (ne-eqb _ _ (c .before .match .rest .1), le-leb _ 2 (le-of-suc-le-suc (c .if1 .taken))))
+    (λ c. simp (ne-eqb _ _ (c .before .match .rest .1), lt-leb _ 2 (c .if1 .left))))

@@ -1,0 +1,108 @@
+-- Rows 1 to 9 of the refusal table, which a board alone decides, in their order.
+-- Assumes nothing.
+use Prim.Native.Nat.{ℕ, _-_, _%_}
+use mathlib.Core.Bool.{Bool, not, cond, _&&_}
+use mathlib.Core.List.{List, [], _∷_}
+use lib.ListN.{length, getD}
+use lib.Dec.{leb, ltb, eqb}
+use Rattle.folds.specs.Folds.{firstFrom}
+use Rattle.board.specs.Layout.{word, cores, tasks, traces, instructions, memory, bus, refresh, lengthsAt, fetchesAt, worksAt, boardWords, firstTrace, firstInstruction, kindOf, blockOf, firstDataBlock}
+use Rattle.refusals.specs.declared.Verdict.{Verdict}
+use Rattle.refusals.specs.declared.Verdict.the-variants.{Passed, Refused}
+
+-- ---- ranges of a word x
+
+-- low .. high
+abbrev pub within : ℕ → ℕ → ℕ → Bool
+within low high x = leb low x && leb x high
+
+abbrev pub isZero : ℕ → Bool
+isZero x = eqb x 0
+
+-- low .. high where the word is in use, and 0 where not
+abbrev pub rangeIf : Bool → ℕ → ℕ → ℕ → Bool
+rangeIf used low high x = cond used (within low high x) (isZero x)
+
+-- the largest period and refresh interval
+abbrev pub longest : ℕ
+longest = 268435455
+
+-- the range of each header word; the words past these are spare
+unfoldable pub headerRanges : List ℕ → List (ℕ → Bool)
+headerRanges b =
+    within 1 8
+    ∷ within 1 64
+    ∷ within 1 512
+    ∷ within 1 8192
+    ∷ within 0 2
+    ∷ within 0 4
+    ∷ rangeIf (leb 3 (bus b)) 1 8
+    ∷ within 1 255
+    ∷ within 0 2
+    ∷ rangeIf (leb 1 (refresh b)) 1 longest
+    ∷ rangeIf (leb 1 (refresh b)) 1 65535
+    ∷ rangeIf (leb 1 (refresh b)) 0 255
+    ∷ leb 1
+    ∷ (λ x. cond (eqb (memory b) 2) (within 1 256 x) (rangeIf (eqb (memory b) 1) 0 32768 x))
+    ∷ rangeIf (eqb (memory b) 1) 0 32768
+    ∷ []
+
+unfoldable pub headerOk : List ℕ → ℕ → Bool
+headerOk b i = getD (headerRanges b) i isZero (word b i)
+
+-- the range of each word of a task, word i of the board: core, T, D (up to T, the word before it), trace count; the word past these is spare
+unfoldable pub taskRanges : List ℕ → ℕ → List (ℕ → Bool)
+taskRanges b i =
+    within 1 (cores b)
+    ∷ within 1 longest
+    ∷ within 1 (word b (i - 1))
+    ∷ within 1 8
+    ∷ []
+
+-- the tasks start at word 20, so word i of the board is word i mod 5 of its task
+unfoldable pub taskOk : List ℕ → ℕ → Bool
+taskOk b i = getD (taskRanges b i) (i % 5) isZero (word b i)
+
+abbrev pub lengthOk : List ℕ → ℕ → Bool
+lengthOk b i = within 1 1024 (word b i)
+
+abbrev pub fetchOk : List ℕ → ℕ → Bool
+fetchOk b i = ltb (word b i) firstDataBlock
+
+-- an execute has block 0, a read and a write have a data block
+unfoldable pub workOk : List ℕ → ℕ → Bool
+workOk b i =
+    cond (eqb (kindOf (word b i)) 0) (eqb (blockOf (word b i)) 0) (leb (kindOf (word b i)) 2 && leb firstDataBlock (blockOf (word b i)))
+
+-- ---- rows
+
+-- row `number` refuses, at `place`, unless the test holds
+unfoldable pub refuseUnless : ℕ → Bool → ℕ → Verdict
+refuseUnless number test place = cond test Passed (Refused number place)
+
+-- the first index of from .. end - 1 that fails the test, and end where none does
+unfoldable pub firstBad : (ℕ → Bool) → ℕ → ℕ → ℕ
+firstBad test from end = firstFrom (λ i. not (test i)) (end - from) from
+
+-- row `number` refuses at the first index of from .. end - 1 that fails the test, ascending
+unfoldable pub refuseFirst : ℕ → (ℕ → Bool) → ℕ → ℕ → Verdict
+refuseFirst number test from end = refuseUnless number (leb end (firstBad test from end)) (firstBad test from end)
+
+infixr 20 _orElse_
+-- the first of two rows that refuses
+abbrev pub _orElse_ : Verdict → Verdict → Verdict
+Passed orElse rest = rest
+Refused number place orElse rest = Refused number place
+
+-- rows 1 to 9
+unfoldable pub refusalOf : List ℕ → Verdict
+refusalOf b =
+    refuseUnless 1 (within 20 16384 (length b)) (length b)
+    orElse refuseFirst 2 (headerOk b) 0 20
+    orElse refuseUnless 3 (eqb (length b) (boardWords b)) (boardWords b)
+    orElse refuseFirst 4 (taskOk b) 20 (lengthsAt b)
+    orElse refuseUnless 5 (eqb (firstTrace b (tasks b)) (traces b)) 20
+    orElse refuseFirst 6 (lengthOk b) (lengthsAt b) (fetchesAt b)
+    orElse refuseUnless 7 (eqb (firstInstruction b (traces b)) (instructions b)) (lengthsAt b)
+    orElse refuseFirst 8 (fetchOk b) (fetchesAt b) (worksAt b)
+    orElse refuseFirst 9 (workOk b) (worksAt b) (boardWords b)

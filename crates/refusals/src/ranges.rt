@@ -1,0 +1,116 @@
+// The range of each word of a board.
+ghost use mathlib.Core.Path.{_≡_};
+ghost use Prim.Native.Nat.{_≤_, _<_};
+ghost use lib.ListN.{length};
+ghost use Rattle.refusals.specs.Refusals.{headerOk, taskOk, workOk, rangeIf};
+ghost use Rattle.refusals.specs.Refusals.{within as Refusals·within};
+ghost use Rattle.refusals.specs.Parts.{wordOk};
+
+// The largest period and refresh interval.
+const LONGEST: u32 = 268435455;
+
+// Blocks below it hold code, the others data.
+const FIRST_DATA_BLOCK: u32 = 32768;
+
+// The parts of a board whose words are tested, in their order.
+pub enum Part {
+    Header,
+    Tasks,
+    Lengths,
+    Fetches,
+    Works,
+}
+
+// Whether x is in low .. high.
+pub fn within(low: u32, high: u32, x: u32) -> bool
+    ensures { λ r. ⌜ r ≡ Refusals·within low high x ⌝ }
+{
+    (low <= x) & (x <= high)
+}
+
+// Whether x is in low .. high where it is in use, and 0 where not.
+fn range_if(used: bool, low: u32, high: u32, x: u32) -> bool
+    ensures { λ r. ⌜ r ≡ rangeIf used low high x ⌝ }
+{
+    if used { within(low, high, x) } else { x == 0 }
+}
+
+// Words 15 and above are spare.
+fn header_ok(board: &[u32], i: usize) -> bool
+    requires { ⌜ (20 ≤ length (now board)) × (i < length (now board)) ⌝ }
+    ensures { λ r. ⌜ r ≡ headerOk (now (board .entry)) i ⌝ }
+{
+    let memory = board[4];
+    let slotted = 3 <= board[5];
+    let refreshed = 1 <= board[8];
+    let x = board[i];
+    match i {
+        0 => within(1, 8, x),
+        1 => within(1, 64, x),
+        2 => within(1, 512, x),
+        3 => within(1, 8192, x),
+        4 => within(0, 2, x),
+        5 => within(0, 4, x),
+        6 => range_if(slotted, 1, 8, x),
+        7 => within(1, 255, x),
+        8 => within(0, 2, x),
+        9 => range_if(refreshed, 1, LONGEST, x),
+        10 => range_if(refreshed, 1, 65535, x),
+        11 => range_if(refreshed, 0, 255, x),
+        12 => 1 <= x,
+        13 => {
+            if memory == 2 {
+                within(1, 256, x)
+            } else {
+                range_if(memory == 1, 0, 32768, x)
+            }
+        }
+        14 => range_if(memory == 1, 0, 32768, x),
+        _ => x == 0,
+    }
+}
+
+// The tasks start at word 20, so word i of the board is word i mod 5 of its task: core, T, D, trace count, spare.
+fn task_ok(board: &[u32], i: usize) -> bool
+    requires { ⌜ (20 ≤ length (now board)) × (i < length (now board)) ⌝ }
+    ensures { λ r. ⌜ r ≡ taskOk (now (board .entry)) i ⌝ }
+{
+    let x = board[i];
+    let field = i % 5;
+    match field {
+        0 => within(1, board[0], x),
+        1 => within(1, LONGEST, x),
+        2 => within(1, board[i - 1], x),
+        3 => within(1, 8, x),
+        _ => x == 0,
+    }
+}
+
+// Kind 0 executes, 1 reads and 2 writes.
+fn work_ok(board: &[u32], i: usize) -> bool
+    requires { ⌜ i < length (now board) ⌝ }
+    ensures { λ r. ⌜ r ≡ workOk (now (board .entry)) i ⌝ }
+{
+    let x = board[i];
+    let kind = x / 268435456;
+    let block = x % 65536;
+    match kind {
+        0 => block == 0,
+        1 | 2 => FIRST_DATA_BLOCK <= block,
+        _ => false,
+    }
+}
+
+// Whether word i of the board is in its range, as a word of that part.
+pub(crate) fn word_ok(board: &[u32], part: Part, i: usize) -> bool
+    requires { ⌜ (20 ≤ length (now board)) × (i < length (now board)) ⌝ }
+    ensures { λ r. ⌜ r ≡ wordOk part (now (board .entry)) i ⌝ }
+{
+    match part {
+        Part::Header => header_ok(board, i),
+        Part::Tasks => task_ok(board, i),
+        Part::Lengths => within(1, 1024, board[i]),
+        Part::Fetches => board[i] < FIRST_DATA_BLOCK,
+        Part::Works => work_ok(board, i),
+    }
+}
