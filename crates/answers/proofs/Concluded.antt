@@ -15,8 +15,8 @@ use Rattle.settling.specs.declared.Passes.{Passes}
 use Rattle.settling.specs.declared.Passes.the-variants.{Needed, Over}
 use Rattle.settling.specs.Settling.{passesOf, Ended}
 use Rattle.settling.proofs.Ends.{over-is, needed-is}
-use Rattle.late.specs.Delivered.{delivered}
-use Rattle.late.proofs.Delivered.{delivered-late, delivered-none}
+use Rattle.settling.specs.Delivered.{delivered}
+use Rattle.settling.proofs.Delivered.{delivered-late, delivered-none}
 use Rattle.answers.specs.declared.Answer.{Answer}
 use Rattle.answers.specs.declared.Answer.the-variants.{Times, Late, Spent}
 use Rattle.answers.specs.Answers.{system, settledAnswer, timesLeft}

@@ -10,7 +10,7 @@ use Rattle.board.specs.Layout.{passLimit}
 use Rattle.passes.specs.Passes.{System, firstLate}
 use Rattle.settling.specs.declared.Passes.{Passes}
 use Rattle.settling.specs.declared.Passes.the-variants.{Needed, Over}
-use Rattle.late.specs.Delivered.{delivered}
+use Rattle.settling.specs.Delivered.{delivered}
 use Rattle.answers.specs.declared.Answer.{Answer}
 use Rattle.answers.specs.declared.Answer.the-variants.{Times, Late, Spent}
 use Rattle.answers.specs.Answers.{system, settledAnswer, timesLeft}

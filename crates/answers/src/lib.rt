@@ -2,8 +2,8 @@
 // table, the answer. A refused call writes nothing.
 pub mod taken;
 
-use refusals::Verdict;
 use folds::index;
+use refusals::Verdict;
 ghost use mathlib.Core.Path.{_≡_};
 ghost use Prim.Native.Nat.{_≤_};
 ghost use lib.ListN.{length};
@@ -47,7 +47,7 @@ pub fn begin(
         Verdict::Passed => {
             let n = index(board::fields::tasks(board));
             scratch::prepare(board, n, scratch, sets);
-            late::copy(4 * n, scratch, words);
+            folds::words::copy(4 * n, scratch, words);
             n
         }
         Verdict::Refused(_, _) => 0,

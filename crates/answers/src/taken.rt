@@ -27,7 +27,7 @@ pub fn conclude(
     match passes {
         Passes::Over => Answer::Spent,
         Passes::Needed(made) => {
-            let late = late::deliver(board, n, &scratch[..n], times);
+            let late = settling::late::deliver(board, n, &scratch[..n], times);
             if late < n {
                 let number = late as u32 + 1;
                 Answer::Late(number, made)

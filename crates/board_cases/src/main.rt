@@ -1,8 +1,8 @@
 // Reads boards from standard input, one to a line, and prints the verdict of `refusals::check` on each: `ok`, or `bad` with number and place.
-use refusals::Verdict;
 use libc::STDOUT_FILENO;
 use lines::print::print_refusal;
 use lines::read_line;
+use refusals::Verdict;
 ghost use Prim.Native.Nat.{_<_};
 ghost use lib.ListN.{length};
 

@@ -1,8 +1,8 @@
 // The checks that each call makes of what it takes.
+use folds::index;
 use refusals::Verdict;
 use refusals::check_that;
 use refusals::or_else;
-use folds::index;
 ghost use mathlib.Core.Path.{_≡_};
 ghost use Prim.Native.Nat.{_≤_};
 ghost use lib.ListN.{length};

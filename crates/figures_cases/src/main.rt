@@ -1,6 +1,5 @@
 // Reads boards from standard input, one to a line, and prints of each the figures, a line a task (its number, core, T, D, PD, MD and the words
 // of its ECB), and the overheads: from the table, a line a task i, and once more those of the last task, each by a call of its own.
-use refusals::Verdict;
 use board::fields;
 use figures::survey::overhead;
 use figures::survey::survey;
@@ -10,6 +9,7 @@ use libc::STDOUT_FILENO;
 use lines::print::print_field;
 use lines::print::print_refusal;
 use lines::read_line;
+use refusals::Verdict;
 ghost use mathlib.Core.Path.{_≡_};
 ghost use Prim.Native.Nat.{_+_, _<_, _≤_};
 ghost use lib.ListN.{length};

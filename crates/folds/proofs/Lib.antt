@@ -5,3 +5,5 @@ pub mod Searches
 pub mod Lists
 pub mod Loops
 pub mod Named
+pub mod Filled
+pub mod Stored

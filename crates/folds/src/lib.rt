@@ -1,4 +1,6 @@
-// Functions on numbers that every crate shares.
+// Functions on numbers and words that every crate shares.
+pub mod words;
+
 ghost use mathlib.Core.Path.{_≡_};
 ghost use Prim.Native.Nat.{_+_, _-_, _<_, _≤_, _^_, max, min};
 ghost use Rattle.folds.specs.Folds.{ceilDiv, when};

@@ -11,9 +11,9 @@ ghost use Rattle.text.specs.Buffer.{Put};
 ghost use Rattle.page.specs.Page.{boardPage, pageOf};
 use answer::answer_page;
 use answer::pair_line;
-use refusals::Verdict;
 use input::decode;
 use input::refusal;
+use refusals::Verdict;
 
 // Reads the input until its end, a failed read or 65,537 bytes, and writes its page.
 pub fn run(from: i32, to: i32) {

@@ -7,7 +7,7 @@ use native.Mathlib.Nat.{suc-mul, mul-le-mul, mul-le-mul-right}
 use native.Mathlib.Omega.{arith}
 use lib.ListN.{getD}
 use Rattle.folds.proofs.Numbers.{below-suc}
-use Rattle.scratch.specs.Stored.{Stored}
+use Rattle.folds.specs.Stored.{Stored}
 use Rattle.scratch.specs.Scratch.{RowAddable, withMD, Addable, Added}
 
 -- row i of n ends where n rows do, or before

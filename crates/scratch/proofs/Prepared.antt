@@ -17,7 +17,7 @@ use Rattle.figures.proofs.Fillable.{held-tasks}
 use Rattle.figures.proofs.Bounds.{taskMD-bound, γ-bound}
 use Rattle.sums.specs.Sums.{memoryDemand}
 use Rattle.sums.specs.Inputs.{Holds, Times, SumInput}
-use Rattle.scratch.specs.Stored.{Stored}
+use Rattle.folds.specs.Stored.{Stored}
 use Rattle.scratch.specs.Scratch.{Passable, Room, withMD, Addable, Added, Prepared}
 
 -- what is kept where as many words are

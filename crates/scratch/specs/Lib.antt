@@ -1,3 +1,2 @@
 -- The word scratch.
-pub mod Stored
 pub mod Scratch

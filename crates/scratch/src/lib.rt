@@ -5,7 +5,7 @@ ghost use lib.ListN.{length};
 ghost use Rattle.figures.specs.Survey.{Held};
 ghost use Rattle.sums.specs.Sums.{taskSum};
 ghost use Rattle.sums.specs.Inputs.{Times};
-ghost use Rattle.scratch.specs.Stored.{Stored};
+ghost use Rattle.folds.specs.Stored.{Stored};
 ghost use Rattle.scratch.specs.Scratch.{Room, RowAddable, withMD, Addable, Added, Prepared};
 
 // Adds each task's MD to its word of the row at `at`.

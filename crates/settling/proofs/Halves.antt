@@ -11,9 +11,9 @@ use Rattle.folds.proofs.Lists.{fillTo-from}
 use Rattle.passes.specs.Passes.{System, capped, pass}
 use Rattle.passes.proofs.Ascending.{length-pass, getD-pass}
 use Rattle.passes.proofs.Looping.{Passing, passing-none}
-use Rattle.scratch.specs.Stored.{Stored}
-use Rattle.scratch.proofs.Filled.{take-filled}
-use Rattle.scratch.proofs.Stored.{take-before}
+use Rattle.folds.specs.Stored.{Stored}
+use Rattle.folds.proofs.Filled.{take-filled}
+use Rattle.folds.proofs.Stored.{take-before}
 use Rattle.scratch.proofs.Prepared.{passable-kept}
 use Rattle.sums.specs.Inputs.{Times}
 use Rattle.settling.specs.Settling.{Startable}

@@ -16,7 +16,7 @@ use Rattle.board.specs.Layout.{core}
 use Rattle.sums.specs.Sums.{bound}
 use Rattle.sums.proofs.TimesRead.{taskSum-reads}
 use Rattle.passes.specs.Passes.{capped}
-use Rattle.scratch.specs.Stored.{Stored}
+use Rattle.folds.specs.Stored.{Stored}
 use Rattle.scratch.specs.Scratch.{Passable}
 use Rattle.settling.specs.System.{system}
 use Rattle.settling.specs.Kept.{Within, Joined, Told, Kept}

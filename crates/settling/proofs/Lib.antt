@@ -4,3 +4,4 @@ pub mod Halves
 pub mod Kept
 pub mod Ends
 pub mod Underway
+pub mod Delivered

@@ -11,7 +11,7 @@ use Rattle.folds.specs.Folds.{fillTo}
 use Rattle.folds.proofs.Lists.{length-fillTo}
 use Rattle.passes.specs.Passes.{System, capped, pass, passesNeeded}
 use Rattle.passes.proofs.Looping.{Passing, passing-more, passing-capped, passing-over, passing-needed, passing-settled}
-use Rattle.scratch.specs.Stored.{Stored}
+use Rattle.folds.specs.Stored.{Stored}
 use Rattle.scratch.specs.Scratch.{Passable}
 use Rattle.scratch.proofs.Prepared.{passable-kept}
 use Rattle.settling.specs.declared.Passes.the-variants.{Needed, Over}

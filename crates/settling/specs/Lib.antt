@@ -2,3 +2,4 @@
 pub mod System
 pub mod Kept
 pub mod Settling
+pub mod Delivered

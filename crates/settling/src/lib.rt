@@ -1,9 +1,10 @@
 // The passes of a board, over a prepared scratch.
 mod due;
+pub mod late;
 mod pass;
 
+use folds::words::clear;
 use pass::advance;
-use pass::clear;
 use pass::make_pass;
 ghost use mathlib.Core.Path.{_≡_};
 ghost use Rattle.passes.specs.Passes.{pass};

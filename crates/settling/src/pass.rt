@@ -6,7 +6,7 @@ ghost use Prim.Native.Nat.{_+_, _<_, _≤_};
 ghost use lib.ListN.{length, getD, take};
 ghost use Rattle.folds.specs.Folds.{fillTo};
 ghost use Rattle.passes.specs.Passes.{capped};
-ghost use Rattle.scratch.specs.Stored.{Stored};
+ghost use Rattle.folds.specs.Stored.{Stored};
 ghost use Rattle.scratch.specs.Scratch.{Passable, Prepared};
 ghost use Rattle.settling.specs.System.{system};
 ghost use Rattle.settling.specs.Kept.{Told, Kept};
@@ -35,18 +35,6 @@ pub fn make_pass(board: &[u32], n: usize, moved: &[bool], all: u32, scratch: &mu
             scratch[n + i] = next_time(board, n, scratch, i);
         }
         i += 1;
-    }
-}
-
-// Sets the first n words to 0.
-pub fn clear(n: usize, words: &mut [u32])
-    requires { ⌜ n ≤ length (now words) ⌝ }
-    ensures { λ _. ⌜ now (words .exit) ≡ fillTo (λ k. 0) n (now (words .entry)) ⌝ }
-{
-    let mut k = 0;
-    while k < n {
-        words[k] = 0;
-        k += 1;
     }
 }
 

@@ -5,9 +5,9 @@ use mathlib.Core.Path.{_≡_, ap₂}
 use native.Mathlib.Nat.{le-refl}
 use native.Mathlib.Omega.{arith}
 use borrow.Author.Needs.{needs}
-use Rattle.scratch.specs.Stored.{Stored}
+use Rattle.folds.specs.Stored.{Stored}
 use Rattle.scratch.specs.Scratch.{withMD}
-use Rattle.scratch.proofs.Stored.{stored-none, stored-next, stored-all}
+use Rattle.folds.proofs.Stored.{stored-none, stored-next, stored-all}
 use Rattle.scratch.proofs.add_row.Statement.{statement}
 use Rattle.scratch.proofs.add_row.Tie as tie
 

@@ -7,7 +7,7 @@ use lib.ListN.{length, getD}
 use borrow.Author.Count.{below-more}
 use borrow.Author.Needs.{needs}
 use Rattle.scratch.specs.Scratch.{Prepared}
-use Rattle.scratch.proofs.Stored.{filled-stored}
+use Rattle.folds.proofs.Stored.{filled-stored}
 use Rattle.scratch.proofs.Prepared.{passable, passable-kept, prepared-stored}
 use Rattle.settling.proofs.Underway.{Underway, underway-start, underway-startable, underway-over, underway-next, underway-still, ended-cleared}
 use Rattle.settling.proofs.run.Statement.{statement}

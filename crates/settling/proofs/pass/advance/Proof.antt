@@ -10,7 +10,7 @@ use native.Mathlib.Omega.{arith}
 use lib.ListN.{length, getD, length-set}
 use borrow.Author.Needs.{needs}
 use Rattle.folds.proofs.Lists.{fillTo-from}
-use Rattle.scratch.proofs.Filled.{Filled, filled-none, filled-next, filled-all}
+use Rattle.folds.proofs.Filled.{Filled, filled-none, filled-next, filled-all}
 use Rattle.settling.specs.Kept.{Told}
 use Rattle.settling.proofs.Kept.{told-none, told-still, told-moved}
 use Rattle.settling.proofs.pass.advance.Statement.{statement}

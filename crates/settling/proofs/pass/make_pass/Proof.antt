@@ -8,8 +8,8 @@ use native.Mathlib.Omega.{arith}
 use lib.ListN.{take}
 use borrow.Author.Needs.{needs}
 use Rattle.passes.specs.Passes.{capped}
-use Rattle.scratch.specs.Stored.{Stored}
-use Rattle.scratch.proofs.Stored.{stored-none, stored-next, stored-all}
+use Rattle.folds.specs.Stored.{Stored}
+use Rattle.folds.proofs.Stored.{stored-none, stored-next, stored-all}
 use Rattle.scratch.proofs.Prepared.{prepared-stored}
 use Rattle.settling.specs.System.{system}
 use Rattle.settling.specs.Kept.{Within}

@@ -8,7 +8,7 @@ use lib.ListN.{getD}
 use borrow.Author.Tests.{lt-ltb, le-ltb}
 use Rattle.folds.specs.Folds.{fillTo}
 use Rattle.passes.specs.Passes.{System, firstLate}
-use Rattle.late.specs.Delivered.{delivered}
+use Rattle.settling.specs.Delivered.{delivered}
 
 -- the times buffer, where a task is late and where none is
 module _ (S : System) (R : List ℕ) {n late : ℕ} (tasks : n ≡ S .count) (found : late ≡ firstLate S R) (old : List ℕ) where

@@ -6,8 +6,8 @@ ghost use Rattle.folds.specs.Folds.{fillTo};
 ghost use Rattle.board.specs.Layout.{tasks};
 ghost use Rattle.board.specs.Sound.{Sound};
 ghost use Rattle.passes.specs.Passes.{firstLate};
 ghost use Rattle.settling.specs.System.{system};
-ghost use Rattle.late.specs.Delivered.{delivered};
+ghost use Rattle.settling.specs.Delivered.{delivered};
 
 // The first task past its bound, and n where there is none.
 fn first_late(board: &[u32], n: usize, times: &[u32]) -> usize
@@ -26,18 +26,6 @@ fn first_late(board: &[u32], n: usize, times: &[u32]) -> usize
     n
 }
 
-// Copies the first n words.
-pub fn copy(n: usize, from: &[u32], to: &mut [u32])
-    requires { ⌜ (n ≤ length (now from)) × (n ≤ length (now to)) ⌝ }
-    ensures { λ _. ⌜ now (to .exit) ≡ fillTo (λ k. getD (now (from .entry)) k 0) n (now (to .entry)) ⌝ }
-{
-    let mut k = 0;
-    while k < n {
-        to[k] = from[k];
-        k += 1;
-    }
-}
-
 // The first task that settled past its bound, and n where there is none: the settled times are then the first n words of `times`.
 pub fn deliver(board: &[u32], n: usize, settled: &[u32], times: &mut [u32]) -> usize
     requires { ⌜ (Sound (now board)) × (n ≡ tasks (now board)) × (n ≤ length (now settled)) × (n ≤ length (now times)) ⌝ }
@@ -46,7 +34,7 @@ pub fn deliver(board: &[u32], n: usize, settled: &[u32], times: &mut [u32]) -> u
 {
     let late = first_late(board, n, settled);
     if n <= late {
-        copy(n, settled, times);
+        folds::words::copy(n, settled, times);
     }
     late
 }

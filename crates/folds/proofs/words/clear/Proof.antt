@@ -1,12 +1,12 @@
--- `settling::pass::clear` meets its contract.
+-- `folds::words::clear` meets its contract.
 -- Assumes nothing.
 use Prim.Native.Nat.{_-_}
 use mathlib.Core.Path.{refl}
 use native.Mathlib.Omega.{arith}
 use borrow.Author.Needs.{needs}
-use Rattle.scratch.proofs.Filled.{Filled, filled-none, filled-next, filled-all}
-use Rattle.settling.proofs.pass.clear.Statement.{statement}
-use Rattle.settling.proofs.pass.clear.Tie as tie
+use Rattle.folds.proofs.Filled.{Filled, filled-none, filled-next, filled-all}
+use Rattle.folds.proofs.words.clear.Statement.{statement}
+use Rattle.folds.proofs.words.clear.Tie as tie
 
 abbrev Inv-loop : tie.InvT-loop
 Inv-loop n words₀ k₀ words k = Filled (λ j. 0) n words₀ words k

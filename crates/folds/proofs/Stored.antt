@@ -7,10 +7,10 @@ use native.Mathlib.Nat.{le-antisymm, zero-add}
 use native.Mathlib.Omega.{arith}
 use lib.ListN.{length, getD, take, set, length-set}
 use lib.Seq.{getD-set-same, getD-set-other, length-take-le, getD-take, ext-getD}
 use Rattle.folds.specs.Folds.{fillTo}
 use Rattle.folds.proofs.Lists.{length-fillTo, fillTo-below, fillTo-from}
 use Rattle.folds.proofs.Numbers.{below-suc}
-use Rattle.scratch.specs.Stored.{Stored}
+use Rattle.folds.specs.Stored.{Stored}
 
 module _ (f : ℕ → ℕ) (at : ℕ) (w : List ℕ) where
   pub stored-none : Stored f at 0 w w

@@ -1,13 +1,13 @@
--- `late::copy` meets its contract.
+-- `folds::words::copy` meets its contract.
 -- Assumes nothing.
 use Prim.Native.Nat.{_-_}
 use mathlib.Core.Path.{refl}
 use native.Mathlib.Omega.{arith}
 use lib.ListN.{getD}
 use borrow.Author.Needs.{needs}
-use Rattle.scratch.proofs.Filled.{Filled, filled-none, filled-next, filled-all}
-use Rattle.late.proofs.copy.Statement.{statement}
-use Rattle.late.proofs.copy.Tie as tie
+use Rattle.folds.proofs.Filled.{Filled, filled-none, filled-next, filled-all}
+use Rattle.folds.proofs.words.copy.Statement.{statement}
+use Rattle.folds.proofs.words.copy.Tie as tie
 
 abbrev Inv-loop : tie.InvT-loop
 Inv-loop n from to₀ k₀ to k = Filled (λ j. getD from j 0) n to₀ to k

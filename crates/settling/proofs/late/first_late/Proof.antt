@@ -1,4 +1,4 @@
--- `late::first_late` meets its contract. The invariant: none of the tasks before the `left` last ones is late.
+-- `settling::late::first_late` meets its contract. The invariant: none of the tasks before the `left` last ones is late.
 -- Assumes nothing.
 use Prim.Native.Nat.{ℕ, _-_, _≤_, _<_}
 use mathlib.Core.Bool.{false}
@@ -12,9 +12,9 @@ use Rattle.folds.proofs.Searches.{firstFrom-here, firstFrom-none}
 use Rattle.board.specs.Layout.{tasks}
 use Rattle.sums.specs.Sums.{bound}
 use Rattle.passes.specs.Passes.{isLate, firstLate}
 use Rattle.settling.specs.System.{system}
-use Rattle.late.proofs.first_late.Statement.{statement}
-use Rattle.late.proofs.first_late.Tie as tie
+use Rattle.settling.proofs.late.first_late.Statement.{statement}
+use Rattle.settling.proofs.late.first_late.Tie as tie
 
 abbrev Inv-loop : tie.InvT-loop
 Inv-loop board n times left₀ left = (left ≤ n) × ((k : ℕ) → k < n - left → isLate (system board) times k ≡ false)

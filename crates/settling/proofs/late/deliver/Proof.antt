@@ -1,11 +1,11 @@
--- `late::deliver` meets its contract.
+-- `settling::late::deliver` meets its contract.
 -- Assumes nothing.
 use native.Mathlib.Omega.{arith}
 use borrow.Author.Needs.{needs}
 use Rattle.settling.specs.System.{system}
-use Rattle.late.proofs.Delivered.{delivered-late, delivered-none}
-use Rattle.late.proofs.deliver.Statement.{statement}
-use Rattle.late.proofs.deliver.Tie as tie
+use Rattle.settling.proofs.Delivered.{delivered-late, delivered-none}
+use Rattle.settling.proofs.late.deliver.Statement.{statement}
+use Rattle.settling.proofs.late.deliver.Tie as tie
 
 pub deliver-spec : {M : Type 1} → statement M
 deliver-spec =

@@ -1,2 +1,0 @@
--- The settled times for the caller.
-pub mod Delivered
