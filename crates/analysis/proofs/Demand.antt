@@ -20,7 +20,7 @@ use Rattle.passes.proofs.Ascending.{Ascending}
 use Rattle.passes.proofs.Settling.{settled-length}
 use Rattle.passes.proofs.Choices.{firstLate-no-choice, firstLate-none, firstLate-smallest}
 use Rattle.passes.proofs.Orders.{settled-same}
-use Rattle.settling.proofs.Sums.{system-ascending}
+use Rattle.one_pass.proofs.Sums.{system-ascending}
 use Rattle.calls.proofs.Accepted.{analyse-taken}
 use Rattle.answers.specs.declared.Answer.{Answer}
 use Rattle.answers.specs.declared.Answer.the-variants.{Times, Late, Spent}

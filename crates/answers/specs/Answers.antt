@@ -16,7 +16,7 @@ use Rattle.figures.specs.Overhead.{γ}
 use Rattle.sums.specs.Sums.{taskSum}
 use Rattle.passes.specs.Passes.{System, pass, passesBy, settledBy, firstLate}
 -- the passes of a board
-pub use Rattle.settling.specs.System.{system}
+pub use Rattle.one_pass.specs.System.{system}
 use Rattle.answers.specs.Refusals.{figuresRefusal, overheadRefusal, weighRefusal, analyseRefusal}
 use Rattle.answers.specs.declared.Answer.{Answer}
 use Rattle.answers.specs.declared.Answer.the-variants.{Times, Late, Spent, Refused}

@@ -7,7 +7,7 @@ ghost use Prim.Native.Nat.{_-_, _≤_};
 ghost use lib.ListN.{length, take};
 ghost use Rattle.sums.specs.Sums.{taskSum};
 ghost use Rattle.passes.specs.Passes.{pass};
-ghost use Rattle.settling.specs.System.{system};
+ghost use Rattle.one_pass.specs.System.{system};
 ghost use Rattle.scratch.specs.Scratch.{Passable, Prepared};
 ghost use Rattle.calls.specs.Accepted.{WeighTaken};
 ghost use Rattle.answers.specs.Concluded.{answerOf, timesOf, Concluded};

@@ -1,7 +1,4 @@
--- Laws of a board's passes.
-pub mod Sums
-pub mod Halves
-pub mod Kept
+-- Laws of a board's passes, and of what is delivered.
 pub mod Ends
 pub mod Underway
 pub mod Delivered

@@ -15,12 +15,13 @@ use Rattle.folds.specs.Stored.{Stored}
 use Rattle.scratch.specs.Scratch.{Passable}
 use Rattle.scratch.proofs.Prepared.{passable-kept}
 use Rattle.settling.specs.declared.Passes.the-variants.{Needed, Over}
-use Rattle.settling.specs.System.{system}
-use Rattle.settling.specs.Kept.{Told, Kept}
-use Rattle.settling.specs.Settling.{Startable, passesOf, Ended}
-use Rattle.settling.proofs.Sums.{system-ascending}
-use Rattle.settling.proofs.Halves.{passing-cleared, front, agree, stands, advanced}
-use Rattle.settling.proofs.Kept.{kept-none, kept-next}
+use Rattle.one_pass.specs.System.{system}
+use Rattle.one_pass.specs.Kept.{Told, Kept}
+use Rattle.one_pass.specs.Startable.{Startable}
+use Rattle.settling.specs.Settling.{passesOf, Ended}
+use Rattle.one_pass.proofs.Sums.{system-ascending}
+use Rattle.one_pass.proofs.Halves.{passing-cleared, front, agree, stands, advanced}
+use Rattle.one_pass.proofs.Kept.{kept-none, kept-next}
 use Rattle.settling.proofs.Ends.{passes-over, passes-needed}
 
 -- `left` passes of the limit are left: the others were made, each of which changed a time; tasks that read no moved time have their next times

@@ -1,5 +1,3 @@
--- The passes of a board.
-pub mod System
-pub mod Kept
+-- The passes of a board, and what is delivered once they have ended.
 pub mod Settling
 pub mod Delivered

@@ -1,4 +1,4 @@
--- What a pass starts from, and what the passes end with.
+-- What the passes end with.
 -- Assumes nothing.
 use Prim.Native.Nat.{ℕ, _≤_}
 use mathlib.Core.Bool.{cond}
@@ -6,16 +6,9 @@ use mathlib.Core.List.{List}
 use mathlib.Core.Path.{_≡_}
 use lib.Dec.{ltb}
 use lib.ListN.{length, take}
-use Rattle.passes.specs.Passes.{System, Capped, passesBy, settledBy}
-use Rattle.scratch.specs.Scratch.{Passable}
+use Rattle.passes.specs.Passes.{System, passesBy, settledBy}
 use Rattle.settling.specs.declared.Passes.{Passes}
 use Rattle.settling.specs.declared.Passes.the-variants.{Needed, Over}
-use Rattle.settling.specs.System.{system}
-
--- a prepared scratch with times, in its first n words, that a pass can start from
-pub record Startable (b : List ℕ) (n : ℕ) (w : List ℕ) : Type 0 where
-  pub room : Passable b n w
-  pub capped : Capped (system b) (take n w)
 
 -- the passes needed by a step, unless they exceed the limit
 unfoldable pub passesOf : System → (List ℕ → List ℕ) → ℕ → Passes

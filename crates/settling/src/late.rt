@@ -6,7 +6,7 @@ ghost use Rattle.folds.specs.Folds.{fillTo};
 ghost use Rattle.board.specs.Layout.{tasks};
 ghost use Rattle.board.specs.Sound.{Sound};
 ghost use Rattle.passes.specs.Passes.{firstLate};
-ghost use Rattle.settling.specs.System.{system};
+ghost use Rattle.one_pass.specs.System.{system};
 ghost use Rattle.settling.specs.Delivered.{delivered};
 
 // The first task past its bound, and n where there is none.

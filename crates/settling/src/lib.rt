@@ -1,15 +1,13 @@
 // The passes of a board, over a prepared scratch.
-mod due;
 pub mod late;
-mod pass;
 
 use folds::words::clear;
-use pass::advance;
-use pass::make_pass;
+use one_pass::advance;
+use one_pass::make_pass;
 ghost use mathlib.Core.Path.{_≡_};
 ghost use Rattle.passes.specs.Passes.{pass};
 ghost use Rattle.scratch.specs.Scratch.{Prepared};
-ghost use Rattle.settling.specs.System.{system};
+ghost use Rattle.one_pass.specs.System.{system};
 ghost use Rattle.settling.specs.Settling.{passesOf, Ended};
 
 // The passes needed, or that they exceed the limit.

@@ -2,7 +2,7 @@
 -- Assumes nothing.
 use native.Mathlib.Omega.{arith}
 use borrow.Author.Needs.{needs}
-use Rattle.settling.specs.System.{system}
+use Rattle.one_pass.specs.System.{system}
 use Rattle.settling.proofs.Delivered.{delivered-late, delivered-none}
 use Rattle.settling.proofs.late.deliver.Statement.{statement}
 use Rattle.settling.proofs.late.deliver.Tie as tie

@@ -12,7 +12,7 @@ use Rattle.folds.proofs.Searches.{firstFrom-here, firstFrom-none}
 use Rattle.board.specs.Layout.{tasks}
 use Rattle.sums.specs.Sums.{bound}
 use Rattle.passes.specs.Passes.{isLate, firstLate}
-use Rattle.settling.specs.System.{system}
+use Rattle.one_pass.specs.System.{system}
 use Rattle.settling.proofs.late.first_late.Statement.{statement}
 use Rattle.settling.proofs.late.first_late.Tie as tie
 

@@ -8,7 +8,7 @@ use mathlib.Core.Path.{_≡_}
 use lib.ListN.{getD, take}
 use Rattle.board.specs.Layout.{bus, core}
 use Rattle.passes.specs.Passes.{capped}
-use Rattle.settling.specs.System.{system}
+use Rattle.one_pass.specs.System.{system}
 
 -- `all` is the core of all moved tasks, or 0 where none counts: none that counts is off core x
 abbrev pub Within : ℕ → ℕ → Type 0

@@ -1,13 +1,13 @@
--- `settling::pass::next_time` meets its contract.
+-- `one_pass::next_time` meets its contract.
 -- Assumes nothing.
 use Prim.Native.Nat.{ℕ, _+_, min}
 use mathlib.Core.Path.{sym, ap, ap₂, _∙_}
 use native.Mathlib.Omega.{arith}
 use lib.Seq.{length-take-le}
 use borrow.Author.Needs.{needs}
-use Rattle.settling.proofs.Halves.{startable-times}
-use Rattle.settling.proofs.pass.next_time.Statement.{statement}
-use Rattle.settling.proofs.pass.next_time.Tie as tie
+use Rattle.one_pass.proofs.Halves.{startable-times}
+use Rattle.one_pass.proofs.next_time.Statement.{statement}
+use Rattle.one_pass.proofs.next_time.Tie as tie
 
 pub next-time-spec : {M : Type 1} → statement M
 next-time-spec =

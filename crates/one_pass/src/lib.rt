@@ -1,6 +1,8 @@
 // One pass over the times of a prepared scratch.
-use crate::due::is_due;
-use crate::due::joined;
+mod due;
+
+use due::is_due;
+use due::joined;
 ghost use mathlib.Core.Path.{_≡_};
 ghost use Prim.Native.Nat.{_+_, _<_, _≤_};
 ghost use lib.ListN.{length, getD, take};
@@ -8,9 +10,9 @@ ghost use Rattle.folds.specs.Folds.{fillTo};
 ghost use Rattle.passes.specs.Passes.{capped};
 ghost use Rattle.folds.specs.Stored.{Stored};
 ghost use Rattle.scratch.specs.Scratch.{Passable, Prepared};
-ghost use Rattle.settling.specs.System.{system};
-ghost use Rattle.settling.specs.Kept.{Told, Kept};
-ghost use Rattle.settling.specs.Settling.{Startable};
+ghost use Rattle.one_pass.specs.System.{system};
+ghost use Rattle.one_pass.specs.Kept.{Told, Kept};
+ghost use Rattle.one_pass.specs.Startable.{Startable};
 
 // The next time of task i: its sum, or its bound + 1 where the sum is larger.
 fn next_time(board: &[u32], n: usize, scratch: &[u32], i: usize) -> u32

@@ -1,4 +1,4 @@
--- `settling::pass::make_pass` meets its contract: the times and the figures stay while the next times are stored.
+-- `one_pass::make_pass` meets its contract: the times and the figures stay while the next times are stored.
 -- Assumes nothing.
 use Prim.Native.Nat.{ℕ, _-_, _≤_}
 use mathlib.Core.List.{List}
@@ -11,12 +11,12 @@ use Rattle.passes.specs.Passes.{capped}
 use Rattle.folds.specs.Stored.{Stored}
 use Rattle.folds.proofs.Stored.{stored-none, stored-next, stored-all}
 use Rattle.scratch.proofs.Prepared.{prepared-stored}
-use Rattle.settling.specs.System.{system}
-use Rattle.settling.specs.Kept.{Within}
-use Rattle.settling.proofs.Halves.{startable-stored, times-kept}
-use Rattle.settling.proofs.Kept.{stored-kept}
-use Rattle.settling.proofs.pass.make_pass.Statement.{statement}
-use Rattle.settling.proofs.pass.make_pass.Tie as tie
+use Rattle.one_pass.specs.System.{system}
+use Rattle.one_pass.specs.Kept.{Within}
+use Rattle.one_pass.proofs.Halves.{startable-stored, times-kept}
+use Rattle.one_pass.proofs.Kept.{stored-kept}
+use Rattle.one_pass.proofs.make_pass.Statement.{statement}
+use Rattle.one_pass.proofs.make_pass.Tie as tie
 
 abbrev Inv-loop : tie.InvT-loop
 Inv-loop board n moved all scratch₀ i₀ scratch i = (i ≤ n) × Stored (capped (system board) (take n scratch₀)) n i scratch₀ scratch

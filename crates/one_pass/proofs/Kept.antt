@@ -18,9 +18,9 @@ use Rattle.sums.proofs.TimesRead.{taskSum-reads}
 use Rattle.passes.specs.Passes.{capped}
 use Rattle.folds.specs.Stored.{Stored}
 use Rattle.scratch.specs.Scratch.{Passable}
-use Rattle.settling.specs.System.{system}
-use Rattle.settling.specs.Kept.{Within, Joined, Told, Kept}
-use Rattle.settling.proofs.Halves.{still, next-kept}
+use Rattle.one_pass.specs.System.{system}
+use Rattle.one_pass.specs.Kept.{Within, Joined, Told, Kept}
+use Rattle.one_pass.proofs.Halves.{still, next-kept}
 
 -- a task that is not due, as code tests it
 pub due-false : (own : Bool) (all x : ℕ) → (own || (not (eqb all 0) && not (eqb all x))) ≡ false → (own ≡ false) × Within all x

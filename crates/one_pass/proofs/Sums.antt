@@ -5,7 +5,7 @@ use mathlib.Core.List.{List}
 use Rattle.sums.proofs.Rising.{taskSum-mono}
 use Rattle.passes.specs.Passes.{pass}
 use Rattle.passes.proofs.Ascending.{Ascending, pass-ascending}
-use Rattle.settling.specs.System.{system}
+use Rattle.one_pass.specs.System.{system}
 
 -- the sums of a board never fall when times rise
 pub system-ascending : (b : List ℕ) → Ascending (system b) (pass (system b))

@@ -1,12 +1,12 @@
--- `settling::due::joined` meets its contract.
+-- `one_pass::due::joined` meets its contract.
 -- Assumes nothing.
 use native.Mathlib.Omega.{arith}
 use mathlib.Core.Logic.{⊎-elim}
 use mathlib.Core.Path.{sym, _∙_}
 use borrow.Author.Needs.{needs}
-use Rattle.settling.proofs.Kept.{joined-one}
-use Rattle.settling.proofs.due.joined.Statement.{statement}
-use Rattle.settling.proofs.due.joined.Tie as tie
+use Rattle.one_pass.proofs.Kept.{joined-one}
+use Rattle.one_pass.proofs.due.joined.Statement.{statement}
+use Rattle.one_pass.proofs.due.joined.Tie as tie
 
 pub joined-spec : {M : Type 1} → statement M
 joined-spec =

@@ -16,7 +16,7 @@ use Rattle.folds.proofs.Filled.{take-filled}
 use Rattle.folds.proofs.Stored.{take-before}
 use Rattle.scratch.proofs.Prepared.{passable-kept}
 use Rattle.sums.specs.Inputs.{Times}
-use Rattle.settling.specs.Settling.{Startable}
+use Rattle.one_pass.specs.Startable.{Startable}
 
 -- before the first pass
 pub passing-cleared : (S : System) (step : List ℕ → List ℕ) {n : ℕ} {w : List ℕ} (old : List ℕ) → n ≡ S .count → n ≤ length old → w ≡ fillTo (λ k. 0) n old

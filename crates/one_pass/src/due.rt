@@ -7,7 +7,7 @@ ghost use mathlib.Core.Path.{_≡_};
 ghost use Prim.Native.Nat.{_<_};
 ghost use Rattle.board.specs.Layout as at;
 ghost use Rattle.board.specs.Sound.{Sound};
-ghost use Rattle.settling.specs.Kept.{Within, Joined};
+ghost use Rattle.one_pass.specs.Kept.{Within, Joined};
 
 // Whether a task on core x has to be computed, by whether its own time moved and the core of all that did.
 pub fn is_due(own: bool, all: u32, x: u32) -> bool

@@ -1,4 +1,4 @@
--- `settling::pass::advance` meets its contract: a word that is read has not been written yet.
+-- `one_pass::advance` meets its contract: a word that is read has not been written yet.
 -- Assumes nothing.
 use Prim.Native.Nat.{ℕ, _+_, _-_, _≤_, _<_}
 use mathlib.Core.Bool.{true, false}
@@ -11,10 +11,10 @@ use lib.ListN.{length, getD, length-set}
 use borrow.Author.Needs.{needs}
 use Rattle.folds.proofs.Lists.{fillTo-from}
 use Rattle.folds.proofs.Filled.{Filled, filled-none, filled-next, filled-all}
-use Rattle.settling.specs.Kept.{Told}
-use Rattle.settling.proofs.Kept.{told-none, told-still, told-moved}
-use Rattle.settling.proofs.pass.advance.Statement.{statement}
-use Rattle.settling.proofs.pass.advance.Tie as tie
+use Rattle.one_pass.specs.Kept.{Told}
+use Rattle.one_pass.proofs.Kept.{told-none, told-still, told-moved}
+use Rattle.one_pass.proofs.advance.Statement.{statement}
+use Rattle.one_pass.proofs.advance.Tie as tie
 
 -- the next time of task k
 abbrev next : ℕ → List ℕ → ℕ → ℕ

@@ -1,0 +1,4 @@
+-- One pass over the times of a board.
+pub mod System
+pub mod Startable
+pub mod Kept
