@@ -1,3 +1,3 @@
 -- Laws of the calls' refusals.
-pub mod Rows
+pub mod Checks
 pub mod Accepted

@@ -1,10 +1,21 @@
 -- What is known where a call is not refused; the laws in proofs/Accepted.antt derive it.
 -- Assumes nothing.
-use Prim.Native.Nat.{ℕ, _+_, _*_, _≤_}
+use Prim.Native.Nat.{ℕ, _+_, _*_, _≤_, _<_}
 use mathlib.Core.List.{List}
+use mathlib.Core.Path.{_≡_}
 use Rattle.board.specs.Layout as at
 use Rattle.board.specs.Sound.{Between, Sound}
+use Rattle.refusals.specs.Refusals.{refusalOf}
+use Rattle.refusals.specs.declared.Verdict.{Verdict}
+use Rattle.refusals.specs.declared.Verdict.the-variants.{Passed}
 use Rattle.sums.specs.Inputs.{Times}
+
+-- the verdict of a board's own rows, with its tasks where it passes, and 0 where not
+pub record Judged (b : List ℕ) (v : Verdict) (n : ℕ) : Type 0 where
+  pub rows : v ≡ refusalOf b
+  pub tasks : v ≡ Passed → n ≡ at.tasks b
+  pub some : 0 < n → v ≡ Passed
+  pub few : n ≤ 64
 
 pub record FiguresTaken (b : List ℕ) (room : ℕ) : Type 0 where
   pub sound : Sound b

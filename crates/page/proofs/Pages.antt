@@ -4,17 +4,13 @@ use Prim.Native.Nat.{ℕ, _≤_}
 use mathlib.Core.List.{List}
 use mathlib.Core.Path.{_≡_, refl, sym, ap, _∙_}
 use native.Mathlib.Omega.{arith}
-use lib.Dec.{leb}
 use lib.ListN.{length}
-use borrow.Author.Tests.{leb-true}
 use Rattle.board.specs.Layout.{tasks}
-use Rattle.refusals.specs.Refusals.{refusalOf, _orElse_}
 use Rattle.board.specs.Sound.{Sound}
 use Rattle.refusals.specs.declared.Verdict.{Verdict}
 use Rattle.refusals.specs.declared.Verdict.the-variants.{Passed, Refused as Verdict·Refused}
-use Rattle.refusals.proofs.Verdicts.{orElse-passed, refuseUnless-passed}
-use Rattle.refusals.proofs.Sound.{sound}
-use Rattle.answers.specs.Refusals.{timesRow, scratchRow, tableRow, analyseRefusal}
+use Rattle.calls.proofs.Accepted.{analyse-taken}
+use Rattle.answers.specs.Refusals.{analyseRefusal}
 use Rattle.answers.specs.Answers.{answerBy, analyseAnswer, timesAfter}
 use Rattle.answers.specs.declared.Answer.{Answer}
 use Rattle.answers.specs.declared.Answer.the-variants.{Times, Late, Spent, Refused}
@@ -33,11 +29,9 @@ module _ (b R : List ℕ) where
 
   module _ (times scratch table : ℕ) (room : length R ≡ times) where
     passed-printable : (r : Answer) → analyseRefusal b times scratch table ≡ Passed → Printable b R r
-    unfolding analyseRefusal
     passed-printable r e =
-        let all = orElse-passed (refusalOf b) (timesRow b times orElse scratchRow b scratch orElse tableRow b table) e in
-        let row = orElse-passed (timesRow b times) (scratchRow b scratch orElse tableRow b table) (all .1) .0 in
-        any-printable r (sound b (all .0)) (omega (arith, leb-true (tasks b) times (refuseUnless-passed 11 (leb (tasks b) times) times row)))
+        let taken = analyse-taken b times scratch table e .analysable in
+        any-printable r (taken .sound) (omega (arith, taken .timesRoom))
 
     by-verdict : (v : Verdict) → analyseRefusal b times scratch table ≡ v → Printable b R (answerBy v b)
     by-verdict Passed e = passed-printable (answerBy Passed b) e

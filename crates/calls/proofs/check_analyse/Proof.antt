@@ -1,19 +1,12 @@
--- `calls::check_analyse` meets its contract: the rows of its board, and then its own.
+-- `calls::check_analyse` meets its contract.
 -- Assumes nothing.
-use Prim.Native.Nat.{ℕ, _+_, _*_, _≤_}
-use mathlib.Core.Path.{_≡_, ap, _∙_}
-use lib.Dec.{leb}
+use Prim.Native.Nat.{ℕ}
 use borrow.Author.Needs.{needs}
-use Rattle.refusals.specs.Refusals.{refuseUnless}
-use Rattle.calls.specs.Refusals.{analyseRefusal}
-use Rattle.calls.proofs.Rows.{orElse-both, board-then}
+use Rattle.refusals.specs.Refusals.{_orElse_}
+use Rattle.calls.specs.Refusals.{timesRow, scratchRow, tableRow, analyseRefusal}
+use Rattle.calls.proofs.Checks.{row-then, board-then}
 use Rattle.calls.proofs.check_analyse.Statement.{statement}
 use Rattle.calls.proofs.check_analyse.Tie as tie
-use native.Mathlib.Nat.{mul-le-mul}
-use native.Mathlib.Omega.{arith}
-
-small : {n : ℕ} → n ≤ 64 → n * n ≤ 4096
-small h = mul-le-mul h h
 
 pub check-analyse-spec : {M : Type 1} → statement M
 unfolding analyseRefusal
@@ -22,21 +15,16 @@ check-analyse-spec =
     (tie.spec
     (λ c κs. search needs)
     (λ c κs. search needs)
-    (λ c. omega (arith, small {n = c .before .board-rows .result .tasks} (omega arith)))
-    (λ c. search needs)
-    (λ c. omega (arith, small {n = c .before .board-rows .result .tasks} (omega arith)))
-    (λ c κs. search needs)
+    (λ c κs. c .before .board-rows .ensures .few)
     (λ c κs. search needs)
     (λ c κs. search needs)
     (λ c κs. search needs)
     (λ c κs. search needs)
     (λ c.
-    let own = c .before .before .before .before .before .before .board-rows .ensures in
     let a = c .before .before .before .before .before .before .before .before .args in
-    board-then _ (c .or-else3 .ensures) (own .0)
-    (λ p.
-    orElse-both (c .before .or-else2 .ensures)
-    (c .before .before .before .before .before .check-that .ensures ∙ ap (λ (m : ℕ). refuseUnless 11 (leb m (a .times)) (a .times)) (own .1 p))
-    (orElse-both (c .before .before .or-else .ensures)
-    (c .before .before .before .before .check-that2 .ensures ∙ ap (λ (m : ℕ). refuseUnless 12 (leb (m * m + 4 * m) (a .scratch)) (a .scratch)) (own .1 p))
-    (c .before .before .before .check-that3 .ensures ∙ ap (λ (m : ℕ). refuseUnless 13 (leb m (a .room)) (a .room)) (own .1 p))))))
+    board-then (λ (n : ℕ). timesRow n (a .times) orElse scratchRow n (a .scratch) orElse tableRow n (a .room))
+    (c .before .before .before .before .before .before .board-rows .ensures)
+    (c .or-else3 .ensures)
+    (λ _.
+    row-then _ (c .before .or-else2 .ensures) (c .before .before .before .before .before .times-row .ensures)
+    (λ _. row-then _ (c .before .before .or-else .ensures) (c .before .before .before .before .scratch-row .ensures) (λ _. c .before .before .before .table-row .ensures)))))

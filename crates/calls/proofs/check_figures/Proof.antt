@@ -1,12 +1,9 @@
--- `calls::check_figures` meets its contract: the rows of its board, and then its own.
+-- `calls::check_figures` meets its contract.
 -- Assumes nothing.
 use Prim.Native.Nat.{ℕ}
-use mathlib.Core.Path.{_≡_, ap, _∙_}
-use lib.Dec.{leb}
 use borrow.Author.Needs.{needs}
-use Rattle.refusals.specs.Refusals.{refuseUnless}
-use Rattle.calls.specs.Refusals.{figuresRefusal}
-use Rattle.calls.proofs.Rows.{board-then}
+use Rattle.calls.specs.Refusals.{tableRow, figuresRefusal}
+use Rattle.calls.proofs.Checks.{board-then}
 use Rattle.calls.proofs.check_figures.Statement.{statement}
 use Rattle.calls.proofs.check_figures.Tie as tie
 
@@ -19,6 +16,5 @@ check-figures-spec =
     (λ c κs. search needs)
     (λ c κs. search needs)
     (λ c.
-    let own = c .before .before .board-rows .ensures in
-    let room = c .before .before .before .before .args .room in
-    board-then _ (c .or-else .ensures) (own .0) (λ p. c .before .check-that .ensures ∙ ap (λ (m : ℕ). refuseUnless 13 (leb m room) room) (own .1 p))))
+    let a = c .before .before .before .before .args in
+    board-then (λ (n : ℕ). tableRow n (a .room)) (c .before .before .board-rows .ensures) (c .or-else .ensures) (λ _. c .before .table-row .ensures)))

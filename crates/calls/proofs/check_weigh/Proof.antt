@@ -1,25 +1,16 @@
--- `calls::check_weigh` meets its contract: the rows of its board, and then its own.
+-- `calls::check_weigh` meets its contract.
 -- Assumes nothing.
 use Prim.Native.Nat.{ℕ}
-use mathlib.Core.Path.{_≡_, sym, ap, _∙_}
+use mathlib.Core.Path.{sym, _∙_}
+use lib.ListN.{length}
 use borrow.Author.Needs.{needs}
-use Rattle.refusals.specs.Refusals.{within, refuseUnless, refusalOf}
-use Rattle.refusals.specs.declared.Verdict.the-variants.{Passed}
-use Rattle.refusals.proofs.Sound.{sound}
-use Rattle.calls.specs.Refusals.{weighRefusal}
-use Rattle.calls.proofs.Rows.{orElse-next, orElse-refused, orElse-both}
+use borrow.Author.Tests.{leb-true}
+use Rattle.refusals.specs.Refusals.{_orElse_}
+use Rattle.refusals.proofs.Verdicts.{refuseUnless-passed}
+use Rattle.calls.specs.Refusals.{taskRow, timesRow, timeRow, weighRefusal}
+use Rattle.calls.proofs.Checks.{row-then, board-then}
 use Rattle.calls.proofs.check_weigh.Statement.{statement}
 use Rattle.calls.proofs.check_weigh.Tie as tie
-
--- where the board has passed its rows
-abbrev Passing : Type 0
-Passing = tie.After-enum-told
-
-abbrev start-of : Passing → tie.Start
-start-of p = p .before .before .before .before .before
-
-passed : (p : Passing) → refusalOf (start-of p .args .board .now) ≡ Passed
-passed p = sym (p .before .before .check .ensures) ∙ p .enum-told .given .1
 
 pub check-weigh-spec : {M : Type 1} → statement M
 unfolding weighRefusal
@@ -27,21 +18,19 @@ check-weigh-spec =
     tie.close
     (tie.spec
     (λ c κs. search needs)
-    (λ c. search needs)
-    (λ c κs. sound (start-of c .args .board .now) (passed c))
+    (λ c κs some. let judged = c .board-rows .ensures in (sym (judged .rows) ∙ judged .some some, judged .tasks (judged .some some)))
     (λ c κs. search needs)
     (λ c κs. search needs)
-    (λ c κs.
-    let p = c .before .before .before in
-    (sound (start-of p .args .board .now) (passed p), c .before .index .ensures .0 ∙ c .before .before .tasks .ensures .0))
     (λ c κs. search needs)
-    (λ c. search needs)
+    (λ c κs. search needs)
+    (λ c κs. search needs)
     (λ c.
-    let p = c .before .before .before .before .before in
-    let i = start-of p .args .i in
-    let n = c .before .before .before .index .ensures .0 ∙ c .before .before .before .before .tasks .ensures .0 in
-    orElse-both (c .or-else .ensures)
-    (c .before .before .check-that .ensures ∙ ap (λ (m : ℕ). refuseUnless 10 (within 1 m i) i) n)
-    (c .before .check-times .ensures)
-    ∙ orElse-next _ _ (passed p))
-    (λ c. orElse-refused _ _ (sym (c .before .before .before .check .ensures) ∙ c .before .number .given .1)))
+    let times = c .before .before .before in
+    let judged = times .before .before .before .board-rows .ensures in
+    let row11 = times .times-row .ensures in
+    let a = times .before .before .before .before .before .before .args in
+    let R = a .times .now in
+    board-then (λ (n : ℕ). taskRow n (a .i) orElse timesRow n (length R) orElse timeRow (a .board .now) R n) judged (c .or-else3 .ensures)
+    (λ _.
+    row-then _ (c .before .or-else2 .ensures) (times .before .task-row .ensures)
+    (λ _. row-then _ (c .before .before .or-else .ensures) row11 (λ room. times .before .before .time-row .ensures (leb-true _ _ (refuseUnless-passed 11 _ _ (sym row11 ∙ room))))))))

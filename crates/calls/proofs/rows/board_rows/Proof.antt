@@ -1,14 +1,14 @@
--- `calls::board_rows` meets its contract.
+-- `calls::rows::board_rows` meets its contract.
 -- Assumes nothing.
-use Prim.Native.Nat.{ℕ, zero-le}
-use mathlib.Core.Path.{_≡_, sym, _∙_}
+use Prim.Native.Nat.{ℕ}
+use mathlib.Core.Path.{_≡_, refl, sym, _∙_}
 use native.Mathlib.Omega.{arith}
 use borrow.Author.Needs.{needs}
 use Rattle.refusals.specs.Refusals.{refusalOf}
 use Rattle.refusals.specs.declared.Verdict.the-variants.{Passed, Refused}
 use Rattle.refusals.proofs.Sound.{sound}
-use Rattle.calls.proofs.board_rows.Statement.{statement}
-use Rattle.calls.proofs.board_rows.Tie as tie
+use Rattle.calls.proofs.rows.board_rows.Statement.{statement}
+use Rattle.calls.proofs.rows.board_rows.Tie as tie
 
 pub board-rows-spec : {M : Type 1} → statement M
 board-rows-spec =
@@ -23,9 +23,10 @@ board-rows-spec =
     let told = c .before .before in
     let passed = sym (told .before .before .check .ensures) ∙ told .enum-told .given .1 in
     let n = c .index .ensures .0 ∙ c .before .tasks .ensures .0 in
-    (sym passed, (λ _. n), omega arith))
-    (λ c. (
-      sym (sym (c .before .before .before .check .ensures) ∙ c .before .number .given .1),
-      (λ e. let z : _≡_ {A = ℕ} 0 1 = cc in absurd (omega arith)),
-      omega arith,
-    )))
+    record { rows = sym passed; tasks = λ _. n; some = λ _. refl; few = omega arith })
+    (λ c. record {
+      rows = sym (sym (c .before .before .before .check .ensures) ∙ c .before .number .given .1);
+      tasks = λ e. let z : _≡_ {A = ℕ} 0 1 = cc in absurd (omega arith);
+      some = λ h. absurd (omega arith);
+      few = omega arith;
+    }))

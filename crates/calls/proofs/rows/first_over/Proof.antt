@@ -1,4 +1,4 @@
--- `calls::first_over` meets its contract. The invariant: what is to be found is what is found from here on.
+-- `calls::rows::first_over` meets its contract. The invariant: what is to be found is what is found from here on.
 -- Assumes nothing.
 use Prim.Native.Nat.{_+_, _-_, _≤_, _<_}
 use mathlib.Core.Path.{_≡_, refl, _∙_}
@@ -9,9 +9,10 @@ use borrow.Author.Tests.{le-leb, lt-leb}
 use Rattle.sums.specs.Sums.{bound}
 use Rattle.refusals.specs.Refusals.{firstBad}
 use Rattle.refusals.proofs.Searches.{firstBad-pass, firstBad-stop, firstBad-end}
+use Rattle.refusals.proofs.Sound.{sound}
 use Rattle.calls.specs.Refusals.{timeOk}
-use Rattle.calls.proofs.first_over.Statement.{statement}
-use Rattle.calls.proofs.first_over.Tie as tie
+use Rattle.calls.proofs.rows.first_over.Statement.{statement}
+use Rattle.calls.proofs.rows.first_over.Tie as tie
 
 abbrev Inv-loop : tie.InvT-loop
 Inv-loop board times n k₀ k = firstBad (timeOk board times) k n ≡ firstBad (timeOk board times) 0 n
@@ -26,7 +27,7 @@ first-over-spec =
     Inv-loop
     μ-loop
     (λ c. refl)
-    (λ c κs. search needs)
+    (λ c κs. let board = c .before .before .before .before .pre .0 (omega arith) in (sound _ (board .0), omega (arith, board .1)))
     (λ c. search needs)
     (λ c. search needs)
     (λ c. search needs)
