@@ -46,6 +46,7 @@ module _ (b : List ℕ) (step : List ℕ → List ℕ) (old : List ℕ) {limit :
     answer = by-limit (rw (lt-ltb limit (passesBy (system b) step) (over-is (system b) step limit e)));
     given = refl;
     size = ended .size;
+    settled = λ no. absurd (no refl);
   }
 
   -- n tasks settled after p passes, and `late` is the first late one
@@ -54,8 +55,11 @@ module _ (b : List ℕ) (step : List ℕ → List ℕ) (old : List ℕ) {limit :
     count : (passesBy (system b) step ≡ p) × (p ≤ limit)
     count = needed-is (system b) step limit p needed
 
+    reached : take (tasks b) w' ≡ settledBy (system b) step
+    reached = ended .times (omega (arith, count .0, count .1))
+
     same : take n w' ≡ settledBy (system b) step
-    same = ap (λ (k : ℕ). take k w') tasks-of ∙ ended .times (omega (arith, count .0, count .1))
+    same = ap (λ (k : ℕ). take k w') tasks-of ∙ reached
 
     first : firstLate (system b) (settledBy (system b) step) ≡ late
     first = sym (found ∙ ap (firstLate (system b)) same)
@@ -66,6 +70,7 @@ module _ (b : List ℕ) (step : List ℕ → List ℕ) (old : List ℕ) {limit :
       answer = by-limit (rw (count .0, first, le-ltb limit p (count .1), lt-ltb late (tasks b) (omega arith)));
       given = given ∙ sym (delivered-late (system b) (take n w') tasks-of found old h);
       size = ended .size;
+      settled = λ _. reached;
     }
 
     concluded-times : n ≤ late → Concluded b step old w (Times p) new w'
@@ -77,6 +82,7 @@ module _ (b : List ℕ) (step : List ℕ → List ℕ) (old : List ℕ) {limit :
           ∙ sym (delivered-none (system b) (take n w') tasks-of found old h refl)
           ∙ ap₂ (λ (l : List ℕ) (m : ℕ). fillTo (λ k. getD l k 0) m old) same tasks-of;
       size = ended .size;
+      settled = λ _. reached;
     }
 
   -- as `conclude` answers and leaves it

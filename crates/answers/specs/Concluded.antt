@@ -5,9 +5,9 @@ use mathlib.Core.Bool.{cond}
 use mathlib.Core.List.{List}
 use mathlib.Core.Path.{_≡_}
 use lib.Dec.{ltb}
-use lib.ListN.{length}
-use Rattle.board.specs.Layout.{passLimit}
-use Rattle.passes.specs.Passes.{System, firstLate}
+use lib.ListN.{length, take}
+use Rattle.board.specs.Layout.{tasks, passLimit}
+use Rattle.passes.specs.Passes.{System, firstLate, settledBy}
 use Rattle.settling.specs.declared.Passes.{Passes}
 use Rattle.settling.specs.declared.Passes.the-variants.{Needed, Over}
 use Rattle.settling.specs.Delivered.{delivered}
@@ -25,8 +25,9 @@ abbrev pub timesOf : System → Passes → List ℕ → List ℕ → List ℕ
 timesOf S Over R old = old
 timesOf S (Needed p) R old = delivered S R old
 
--- the buffers were `times` and `scratch`, and are times' and scratch'
+-- the buffers were `times` and `scratch`, and are times' and scratch', which begins with the settled times unless the passes were spent
 pub record Concluded (b : List ℕ) (step : List ℕ → List ℕ) (times scratch : List ℕ) (r : Answer) (times' scratch' : List ℕ) : Type 0 where
   pub answer : r ≡ settledAnswer (system b) step (passLimit b)
   pub given : times' ≡ timesLeft (system b) step r times
   pub size : length scratch' ≡ length scratch
+  pub settled : (r ≡ Spent → ⊥) → take (tasks b) scratch' ≡ settledBy (system b) step

@@ -1,4 +1,3 @@
 -- The refusals of each call: rows 1 to 9 of its board, then rows 10 to 14 of what else it takes. The crate `calls` has them.
 -- Assumes nothing.
-pub use Rattle.calls.specs.Refusals.{taskRow, timesRow, scratchRow, tableRow, timeOk}
 unfoldable pub use Rattle.calls.specs.Refusals.{figuresRefusal, overheadRefusal, weighRefusal, analyseRefusal}

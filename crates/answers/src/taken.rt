@@ -38,10 +38,11 @@ pub fn conclude(
     }
 }
 
-// The passes and the answer, over a prepared scratch.
+// The passes and the answer, over a prepared scratch, which is still prepared, and begins with the settled times unless the passes are spent.
 pub fn answer(board: &[u32], n: usize, times: &mut [u32], scratch: &mut [u32]) -> Answer
     requires { ⌜ (Prepared (now board) n (now scratch)) × (n ≤ length (now times)) ⌝ }
-    ensures { λ r. ⌜ Concluded (now (board .entry)) (pass (system (now (board .entry)))) (now (times .entry)) (now (scratch .entry)) r (now (times .exit)) (now (scratch .exit)) ⌝ }
+    ensures { λ r. ⌜ (Concluded (now (board .entry)) (pass (system (now (board .entry)))) (now (times .entry)) (now (scratch .entry)) r
+        (now (times .exit)) (now (scratch .exit))) × Prepared (now (board .entry)) n (now (scratch .exit)) ⌝ }
 {
     let limit = board::fields::pass_limit(board);
     let passes = settling::run(board, n, limit, scratch);

@@ -28,7 +28,8 @@ fn next_time(board: &[u32], n: usize, scratch: &[u32], i: usize) -> u32
 // One pass: the n words from n on become the next times of the first n words. The next times of tasks that read no moved time
 // are there already; `all` is the core of all tasks that moved.
 pub fn make_pass(board: &[u32], n: usize, moved: &[bool], all: u32, scratch: &mut [u32])
-    requires { ⌜ (Startable (now board) n (now scratch)) × (Prepared (now board) n (now scratch)) × (n ≤ length (now moved)) × Kept (now board) n (now scratch) (now moved) all ⌝ }
+    requires { ⌜ (Startable (now board) n (now scratch)) × (Prepared (now board) n (now scratch)) × (n ≤ length (now moved))
+        × Kept (now board) n (now scratch) (now moved) all ⌝ }
     ensures { λ _. ⌜ Stored (capped (system (now (board .entry))) (take n (now (scratch .entry)))) n n (now (scratch .entry)) (now (scratch .exit)) ⌝ }
 {
     let mut i = 0;

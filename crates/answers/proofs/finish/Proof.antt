@@ -20,5 +20,5 @@ finish-spec =
     (λ c. search needs)
     (λ c. search needs)
     (λ c. search needs)
-    (λ c. leaves-answer _ _ _ _ (c .before .before .before .before .before .before .before .before .before .enum-told .given .1) (c .before .before .before .before .answer .ensures))
+    (λ c. leaves-answer _ _ _ _ (c .before .before .before .before .before .before .before .before .before .enum-told .given .1) (c .before .before .before .before .answer .ensures .0))
     (λ c. leaves-refused _ _ _ _ (c .before .verdict .given .1)))

@@ -21,4 +21,6 @@ answer-spec =
     (λ c.
     let d = c .before .before in
     let r = d .before .before .before .before .before in
-    concluded _ _ _ (r .before .before .pass-limit .ensures .0) (r .run .ensures .1) (r .run .result) (start-of r .pre .0 .room .tasks) (r .run .ensures .0) (d .conclude .ensures .0) (d .conclude .ensures .1)))
+    let made = r .run .ensures in
+    let told = d .conclude .ensures in
+    (concluded _ _ _ (r .before .before .pass-limit .ensures .0) (made .1) (r .run .result) (start-of r .pre .0 .room .tasks) (made .0) (told .0) (told .1), made .2)))
