@@ -12,34 +12,35 @@ use Rattle.folds.proofs.Numbers.{when-bound}
 use Rattle.folds.proofs.Folds.{sumTo-bound}
 use Rattle.board.specs.Layout.{tasks, core}
 use Rattle.sums.specs.Sums.{carryIn}
+use Rattle.sums.specs.Limits.{mostCarryIn, mostAccesses}
 use Rattle.sums.specs.Inputs.{RowInput}
 use Rattle.sums.proofs.Bounds.{where-bound, carry-bound}
 use Rattle.interference.specs.Terms.{carriedIf, carriedOff, carriedFrom}
 
 module _ (b row R : List ℕ) (i j : ℕ) (h : RowInput b row R i j) where
   -- any terms of at most W's bound, over the tasks up to j
-  some-bound : (test : ℕ → Bool) (f : ℕ → ℕ) (m : ℕ) → m ≤ j + 1 → ((k : ℕ) → k < tasks b → f k ≤ 2 ^ 42) → sumWhere test f m ≤ 2 ^ 48
+  some-bound : (test : ℕ → Bool) (f : ℕ → ℕ) (m : ℕ) → m ≤ j + 1 → ((k : ℕ) → k < tasks b → f k ≤ mostCarryIn) → sumWhere test f m ≤ mostAccesses
   some-bound test f m few small =
-      where-bound m 64 (2 ^ 42) test f (omega (arith, h .sound .tasks .1, h .below)) (λ k l. small k (omega (arith, h .below)))
+      where-bound m 64 mostCarryIn test f (omega (arith, h .sound .tasks .1, h .below)) (λ k l. small k (omega (arith, h .below)))
 
-  pub carriedIf-bound : (test : ℕ → Bool) (a m : ℕ) → m ≤ j + 1 → sumTo (carriedIf b R i test j a) m ≤ 2 ^ 48
+  pub carriedIf-bound : (test : ℕ → Bool) (a m : ℕ) → m ≤ j + 1 → sumTo (carriedIf b R i test j a) m ≤ mostAccesses
   carriedIf-bound test a m few = some-bound (λ k. leb a k && test (core b k)) (λ k. carryIn b R i j k) m few (carry-bound b row R i j h)
 
-  pub carriedOff-bound : (k : ℕ) → k < tasks b → carriedOff b R i j k ≤ 2 ^ 42
+  pub carriedOff-bound : (k : ℕ) → k < tasks b → carriedOff b R i j k ≤ mostCarryIn
   carriedOff-bound k l = when-bound (not (eqb (core b k) (core b i))) (carry-bound b row R i j h k l)
 
-  pub onCore-bound : (y m : ℕ) → m ≤ j + 1 → sumTo (λ k. when (eqb (core b k) y) (carriedOff b R i j k)) m ≤ 2 ^ 48
+  pub onCore-bound : (y m : ℕ) → m ≤ j + 1 → sumTo (λ k. when (eqb (core b k) y) (carriedOff b R i j k)) m ≤ mostAccesses
   onCore-bound y m few = some-bound (λ k. eqb (core b k) y) (carriedOff b R i j) m few carriedOff-bound
 
-  pub carriedFrom-bound : (y : ℕ) → carriedFrom b R i j y ≤ 2 ^ 48
+  pub carriedFrom-bound : (y : ℕ) → carriedFrom b R i j y ≤ mostAccesses
   unfolding carriedFrom
   carriedFrom-bound y = onCore-bound y (j + 1) (omega arith)
 
 -- the first n of eight sums, each at most cap
-pub capped-bound : (t : List ℕ) (n cap : ℕ) → n ≤ 8 → ((y : ℕ) → y < 8 → getD t y 0 ≤ 2 ^ 50) → sumTo (λ y. min (getD t y 0) cap) n < 2 ^ 64
+pub capped-bound : (t : List ℕ) (n cap : ℕ) → n ≤ 8 → ((y : ℕ) → y < 8 → getD t y 0 ≤ mostAccesses) → sumTo (λ y. min (getD t y 0) cap) n < 2 ^ 64
 capped-bound t n cap few small =
     omega (
       arith,
-      sumTo-bound (λ y. min (getD t y 0) cap) n (2 ^ 50) (λ y l. omega (arith, small y (omega arith))),
-      mul-le-mul {n₁ = n} {m₁ = 2 ^ 50} {n₂ = 8} {m₂ = 2 ^ 50} few (le-refl _),
+      sumTo-bound (λ y. min (getD t y 0) cap) n mostAccesses (λ y l. omega (arith, small y (omega arith))),
+      mul-le-mul {n₁ = n} {m₁ = mostAccesses} {n₂ = 8} {m₂ = mostAccesses} few (le-refl _),
     )

@@ -10,10 +10,11 @@ use folds::index;
 use folds::smaller;
 use folds::wide;
 ghost use mathlib.Core.Path.{_≡_};
-ghost use Prim.Native.Nat.{_≤_, _^_};
+ghost use Prim.Native.Nat.{_≤_};
 ghost use Rattle.board.specs.Layout as at;
 ghost use Rattle.board.specs.Sound.{Sound};
 ghost use Rattle.sums.specs.Sums as spec;
+ghost use Rattle.sums.specs.Limits.{mostOwnAccesses};
 ghost use Rattle.sums.specs.Inputs.{RowInput};
 
 // Task n.
@@ -67,7 +68,7 @@ fn round_robin(board: &[u32], all: &[u32], times: &[u32], i: usize, s: u64) -> u
 
 // Bus 4.
 fn tdma(board: &[u32], times: &[u32], i: usize, s: u64) -> u64
-    requires { ⌜ (Sound (now board)) × (3 ≤ at.bus (now board)) × (s ≤ 2 ^ 46) ⌝ }
+    requires { ⌜ (Sound (now board)) × (3 ≤ at.bus (now board)) × (s ≤ mostOwnAccesses) ⌝ }
     requires { ⌜ s ≡ spec.ownAccesses (now board) (now times) i ⌝ }
     ensures { λ r. ⌜ r ≡ spec.interference (now (board .entry)) (now (times .entry)) i 4 ⌝ }
 {

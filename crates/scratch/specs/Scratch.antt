@@ -1,6 +1,6 @@
 -- The word scratch of n tasks, n × n + 4n words: times n | next times n | PD n | MD n | the rows D'(i, _), n words each.
 -- Assumes nothing.
-use Prim.Native.Nat.{ℕ, _+_, _*_, _^_, _≤_, _<_}
+use Prim.Native.Nat.{ℕ, _+_, _*_, _≤_, _<_}
 use mathlib.Core.List.{List}
 use mathlib.Core.Path.{_≡_}
 use lib.ListN.{length, getD}
@@ -8,6 +8,7 @@ use Rattle.board.specs.Layout as at
 use Rattle.board.specs.Sound.{Sound}
 use Rattle.figures.specs.Figures.{taskPD}
 use Rattle.sums.specs.Sums.{memoryDemand}
+use Rattle.sums.specs.Limits.{mostDemand}
 
 -- the words that passes are made over: times n | next times n, of the n tasks of a board that passed its checks
 pub record Passable (b : List ℕ) (n : ℕ) (w : List ℕ) : Type 0 where
@@ -25,18 +26,18 @@ pub record Room (b : List ℕ) (n : ℕ) (w : List ℕ) : Type 0 where
 abbrev pub withMD : ℕ → ℕ → List ℕ → ℕ → ℕ
 withMD n at w k = getD w (at + k) 0 + getD w (3 * n + k) 0
 
--- a row to which MD can be added: it is there, after the MD, and every sum fits a word
+-- a row to which MD can be added: it is there, after the MD, and every sum is a demand
 pub record RowAddable (n at : ℕ) (w : List ℕ) : Type 0 where
   pub few : n ≤ 64
   pub behind : 4 * n ≤ at
   pub words : at + n ≤ length w
-  pub fits : (k : ℕ) → k < n → withMD n at w k < 2 ^ 32
+  pub fits : (k : ℕ) → k < n → withMD n at w k ≤ mostDemand
 
 -- n such rows, from word 4n on
 pub record Addable (n : ℕ) (w : List ℕ) : Type 0 where
   pub few : n ≤ 64
   pub words : n * n + 4 * n ≤ length w
-  pub fits : (i k : ℕ) → i < n → k < n → withMD n (4 * n + i * n) w k < 2 ^ 32
+  pub fits : (i k : ℕ) → i < n → k < n → withMD n (4 * n + i * n) w k ≤ mostDemand
 
 -- w' is w with MD added to the first `count` rows
 pub record Added (n count : ℕ) (w w' : List ℕ) : Type 0 where

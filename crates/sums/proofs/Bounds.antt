@@ -17,6 +17,7 @@ use Rattle.figures.specs.Figures.{taskPD}
 use Rattle.figures.proofs.Overhead.{γ-bound}
 use Rattle.figures.proofs.Bounds.{taskPD-bound, taskMD-bound}
 use Rattle.sums.specs.Sums.{lowest, bound, releases, memoryDemand, overCores, window, ownAccesses, carryIn, coreAccesses, interference, busAccesses, refreshes, higherWork, taskSum}
+use Rattle.sums.specs.Limits.{latestTime, mostWork, mostDemand, mostReleases, longestWindow, mostCarryIn, mostOwnAccesses, mostHigherWork, mostAccesses, mostInterference, mostBusAccesses}
 use Rattle.sums.specs.Inputs.{RowInput, releaseCost}
 use Rattle.sums.proofs.Rising.{carry-mono}
 use Rattle.sums.proofs.Printed.{taskSum-printed}
@@ -26,56 +27,56 @@ pub where-bound : (n l m : ℕ) (test : ℕ → Bool) (f : ℕ → ℕ) → n �
 where-bound n l m test f h all = le-trans (sumWhere-bound test f n m all) (mul-le-mul h (le-refl m))
 
 -- D'(j, k): MD of 1,024 instructions, and the reloads of 256 sets
-pub demand-bound : (b : List ℕ) → Sound b → (j k : ℕ) → k < tasks b → memoryDemand b j k ≤ 2 ^ 12
+pub demand-bound : (b : List ℕ) → Sound b → (j k : ℕ) → k < tasks b → memoryDemand b j k ≤ mostDemand
 unfolding memoryDemand
 demand-bound b s j k h = omega (arith, taskMD-bound b s k h, γ-bound b j k)
 
-pub work-bound : (b : List ℕ) → Sound b → (k : ℕ) → k < tasks b → taskPD b k ≤ 2 ^ 22
+pub work-bound : (b : List ℕ) → Sound b → (k : ℕ) → k < tasks b → taskPD b k ≤ mostWork
 work-bound b s k h = omega (arith, taskPD-bound b s k h)
 
 -- D + 1
-pub time-bound : (b R : List ℕ) → Sound b → ((k : ℕ) → k < tasks b → getD R k 0 ≤ bound b k + 1) → (k : ℕ) → k < tasks b → getD R k 0 ≤ 2 ^ 28
+pub time-bound : (b R : List ℕ) → Sound b → ((k : ℕ) → k < tasks b → getD R k 0 ≤ bound b k + 1) → (k : ℕ) → k < tasks b → getD R k 0 ≤ latestTime
 time-bound b R s short k h = omega (arith, short k h, s .deadline k h .1, s .period k h .1)
 
 module _ (b R : List ℕ) (s : Sound b) (short : (k : ℕ) → k < tasks b → getD R k 0 ≤ bound b k + 1) (i : ℕ) (task : i < tasks b) where
-  abbrev late : (k : ℕ) → k < tasks b → getD R k 0 ≤ 2 ^ 28
+  abbrev late : (k : ℕ) → k < tasks b → getD R k 0 ≤ latestTime
   late k h = time-bound b R s short k h
 
-  releases-bound : (k : ℕ) → releases b i k (getD R i 0) ≤ 2 ^ 28
+  releases-bound : (k : ℕ) → releases b i k (getD R i 0) ≤ mostReleases
   releases-bound k = le-trans (ceilDiv-self (getD R i 0) (period b k)) (late i task)
 
-  ownAccesses-bound : ownAccesses b R i ≤ 64 * (2 ^ 28 * 2 ^ 12)
+  ownAccesses-bound : ownAccesses b R i ≤ mostOwnAccesses
   unfolding ownAccesses
   ownAccesses-bound =
-      where-bound _ 64 (2 ^ 28 * 2 ^ 12) (λ k. eqb (core b k) (core b i)) _ (omega (arith, s .tasks .1))
+      where-bound _ 64 (mostReleases * mostDemand) (λ k. eqb (core b k) (core b i)) _ (omega (arith, s .tasks .1))
       (λ k h. mul-le-mul (releases-bound k) (demand-bound b s i k (omega arith)))
 
-  -- W rises with its window, which is at most 2^29 periods
-  carryIn-bound : (j k : ℕ) → k < tasks b → carryIn b R i j k ≤ 2 ^ 12 * 2 ^ 29 + 2 ^ 12
+  -- W rises with its window, which is at most `longestWindow` periods
+  carryIn-bound : (j k : ℕ) → k < tasks b → carryIn b R i j k ≤ mostCarryIn
   unfolding carryIn
   carryIn-bound j k h =
       let m = memoryDemand b j k in
       let T = period b k in
-      let most : 2 ^ 29 * T / T ≡ 2 ^ 29 = mul-div-cancel (2 ^ 29) (s .period k h .0) in
+      let most : longestWindow * T / T ≡ longestWindow = mul-div-cancel longestWindow (s .period k h .0) in
       omega (
         arith,
-        carry-mono m T (accessCycles b) (window b R i j k) (2 ^ 29 * T) (omega (arith, late i task, late k h, s .period k h .0)),
+        carry-mono m T (accessCycles b) (window b R i j k) (longestWindow * T) (omega (arith, late i task, late k h, s .period k h .0)),
         ap (λ (q : ℕ). m * q) most,
         demand-bound b s j k h,
       )
 
-  coreAccesses-bound : (j y : ℕ) → j < tasks b → coreAccesses b R i j y ≤ 64 * (2 ^ 12 * 2 ^ 29 + 2 ^ 12)
+  coreAccesses-bound : (j y : ℕ) → j < tasks b → coreAccesses b R i j y ≤ mostAccesses
   unfolding coreAccesses
   coreAccesses-bound j y h =
-      where-bound (j + 1) 64 (2 ^ 12 * 2 ^ 29 + 2 ^ 12) (λ k. eqb (core b k) y) _ (omega (arith, s .tasks .1)) (λ k l. carryIn-bound j k (omega arith))
+      where-bound (j + 1) 64 mostCarryIn (λ k. eqb (core b k) y) _ (omega (arith, s .tasks .1)) (λ k l. carryIn-bound j k (omega arith))
 
   -- a sum over cores of what is at most A's bound
-  overCores-bound : (test : ℕ → Bool) (f : ℕ → ℕ) → ((y : ℕ) → f y ≤ 64 * (2 ^ 12 * 2 ^ 29 + 2 ^ 12))
-      → overCores b test f ≤ 8 * (64 * (2 ^ 12 * 2 ^ 29 + 2 ^ 12))
+  overCores-bound : (test : ℕ → Bool) (f : ℕ → ℕ) → ((y : ℕ) → f y ≤ mostAccesses)
+      → overCores b test f ≤ 8 * mostAccesses
   overCores-bound test f all =
-      where-bound (cores b) 8 (64 * (2 ^ 12 * 2 ^ 29 + 2 ^ 12)) (λ y. test (y + 1)) _ (s .cores .1) (λ y h. all (y + 1))
+      where-bound (cores b) 8 mostAccesses (λ y. test (y + 1)) _ (s .cores .1) (λ y h. all (y + 1))
 
-  everyone-bound : (y : ℕ) → coreAccesses b R i (lowest b) y ≤ 64 * (2 ^ 12 * 2 ^ 29 + 2 ^ 12)
+  everyone-bound : (y : ℕ) → coreAccesses b R i (lowest b) y ≤ mostAccesses
   everyone-bound y = coreAccesses-bound (lowest b) y (omega arith)
 
   slots-bound : slotsEach b ≤ 8
@@ -87,7 +88,7 @@ module _ (b R : List ℕ) (s : Sound b) (short : (k : ℕ) → k < tasks b → g
       go (suc (suc zero)) some none = omega (arith, none (omega arith))
       go (suc (suc (suc c))) some none = some (omega arith) .1
 
-  interference-bound : (c : ℕ) → interference b R i c ≤ 2 ^ 52
+  interference-bound : (c : ℕ) → interference b R i c ≤ mostInterference
   unfolding interference
   interference-bound zero =
       omega (
@@ -112,11 +113,11 @@ module _ (b R : List ℕ) (s : Sound b) (short : (k : ℕ) → k < tasks b → g
   interference-bound (suc (suc (suc (suc c)))) =
       omega (
         arith,
-        mul-le-mul {n₁ = (cores b - 1) * slotsEach b} {m₁ = ownAccesses b R i} {n₂ = 7 * 8} {m₂ = 64 * (2 ^ 28 * 2 ^ 12)}
+        mul-le-mul {n₁ = (cores b - 1) * slotsEach b} {m₁ = ownAccesses b R i} {n₂ = 7 * 8} {m₂ = mostOwnAccesses}
             (mul-le-mul {n₁ = cores b - 1} {m₁ = slotsEach b} {n₂ = 7} {m₂ = 8} (omega (arith, s .cores .1)) slots-bound) ownAccesses-bound,
       )
 
-  pub busAccesses-bound : busAccesses b R i ≤ 2 ^ 53
+  pub busAccesses-bound : busAccesses b R i ≤ mostBusAccesses
   unfolding busAccesses
   busAccesses-bound = omega (arith, ownAccesses-bound, interference-bound (bus b))
 
@@ -128,21 +129,21 @@ module _ (b R : List ℕ) (s : Sound b) (short : (k : ℕ) → k < tasks b → g
       go zero some none = omega (arith, none (omega arith) .1)
       go (suc c) some none = some (omega arith) .1
 
-  pub refreshes-bound : (c : ℕ) → refreshes b R i c ≤ 2 ^ 53
+  pub refreshes-bound : (c : ℕ) → refreshes b R i c ≤ mostBusAccesses
   unfolding refreshes
   refreshes-bound zero = omega arith
   refreshes-bound (suc zero) =
       omega (
         arith,
-        mul-le-mul {n₁ = ceilDiv (getD R i 0) (refreshInterval b)} {m₁ = refreshRows b} {n₂ = 2 ^ 28} {m₂ = 65535}
+        mul-le-mul {n₁ = ceilDiv (getD R i 0) (refreshInterval b)} {m₁ = refreshRows b} {n₂ = latestTime} {m₂ = 65535}
             (le-trans (ceilDiv-self (getD R i 0) (refreshInterval b)) (late i task)) rows-bound,
       )
   refreshes-bound (suc (suc c)) = omega (arith, busAccesses-bound)
 
-  higherWork-bound : higherWork b R i ≤ 64 * (2 ^ 28 * 2 ^ 22)
+  higherWork-bound : higherWork b R i ≤ mostHigherWork
   unfolding higherWork
   higherWork-bound =
-      where-bound i 64 (2 ^ 28 * 2 ^ 22) (λ k. eqb (core b k) (core b i)) _ (omega (arith, s .tasks .1))
+      where-bound i 64 (mostReleases * mostWork) (λ k. eqb (core b k) (core b i)) _ (omega (arith, s .tasks .1))
       (λ k h. mul-le-mul (releases-bound k) (work-bound b s k (omega arith)))
 
   pub taskSum-bound : taskSum b R i < 2 ^ 64
@@ -152,20 +153,20 @@ module _ (b R : List ℕ) (s : Sound b) (short : (k : ℕ) → k < tasks b → g
         taskSum-printed b R i,
         work-bound b s i task,
         higherWork-bound,
-        mul-le-mul {n₁ = busAccesses b R i} {m₁ = accessCycles b} {n₂ = 2 ^ 53} {m₂ = 255} busAccesses-bound (s .access .1),
-        mul-le-mul {n₁ = refreshes b R i (refresh b)} {m₁ = refreshCycles b} {n₂ = 2 ^ 53} {m₂ = 255} (refreshes-bound (refresh b)) (s .refreshCycles),
+        mul-le-mul {n₁ = busAccesses b R i} {m₁ = accessCycles b} {n₂ = mostBusAccesses} {m₂ = 255} busAccesses-bound (s .access .1),
+        mul-le-mul {n₁ = refreshes b R i (refresh b)} {m₁ = refreshCycles b} {n₂ = mostBusAccesses} {m₂ = 255} (refreshes-bound (refresh b)) (s .refreshCycles),
       )
 
 -- ---- what code adds up on the way
 
 module _ (b row R : List ℕ) (i j : ℕ) (h : RowInput b row R i j) where
-  pub releaseCost-bound : (cost : ℕ → ℕ) (m k : ℕ) → ((l : ℕ) → l < tasks b → cost l ≤ m) → k ≤ i → sumTo (releaseCost b R i cost) k ≤ 64 * (2 ^ 28 * m)
+  pub releaseCost-bound : (cost : ℕ → ℕ) (m k : ℕ) → ((l : ℕ) → l < tasks b → cost l ≤ m) → k ≤ i → sumTo (releaseCost b R i cost) k ≤ 64 * (mostReleases * m)
   releaseCost-bound cost m k few le =
-      where-bound k 64 (2 ^ 28 * m) (λ l. eqb (core b l) (core b i)) _ (omega (arith, h .task, h .sound .tasks .1))
+      where-bound k 64 (mostReleases * m) (λ l. eqb (core b l) (core b i)) _ (omega (arith, h .task, h .sound .tasks .1))
       (λ l less. mul-le-mul (releases-bound b R (h .sound) (h .times .short) i (h .task) l) (few l (omega (arith, h .task))))
 
-  pub carry-bound : (k : ℕ) → k < tasks b → carryIn b R i j k ≤ 2 ^ 42
-  carry-bound k l = omega (arith, carryIn-bound b R (h .sound) (h .times .short) i (h .task) j k l)
+  pub carry-bound : (k : ℕ) → k < tasks b → carryIn b R i j k ≤ mostCarryIn
+  carry-bound k l = carryIn-bound b R (h .sound) (h .times .short) i (h .task) j k l
 
-  pub own-bound : ownAccesses b R i ≤ 2 ^ 46
-  own-bound = omega (arith, ownAccesses-bound b R (h .sound) (h .times .short) i (h .task))
+  pub own-bound : ownAccesses b R i ≤ mostOwnAccesses
+  own-bound = ownAccesses-bound b R (h .sound) (h .times .short) i (h .task)

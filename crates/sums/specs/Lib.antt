@@ -1,3 +1,4 @@
 -- A task's sum.
 pub mod Sums
+pub mod Limits
 pub mod Inputs

@@ -7,16 +7,17 @@ use folds::ceil_div;
 use folds::less;
 use folds::wide;
 ghost use mathlib.Core.Path.{_≡_};
-ghost use Prim.Native.Nat.{_+_, _*_, _/_, _%_, _<_, _≤_, _^_, min};
+ghost use Prim.Native.Nat.{_+_, _*_, _/_, _%_, _<_, _≤_, min};
 ghost use Rattle.folds.specs.Folds.{ceilDiv};
 ghost use Rattle.board.specs.Layout as at;
 ghost use Rattle.board.specs.Sound.{Between};
 ghost use Rattle.sums.specs.Sums.{carryIn};
+ghost use Rattle.sums.specs.Limits.{longestPeriod, longestWindow, mostDemand};
 ghost use Rattle.sums.specs.Inputs.{RowInput};
 
 // The whole periods in u cycles.
 fn whole_periods(u: u64, period: u64) -> u64
-    requires { ⌜ Between 1 268435455 period × (u ≤ 2 ^ 29) ⌝ }
+    requires { ⌜ Between 1 longestPeriod period × (u ≤ longestWindow) ⌝ }
     ensures { λ r. ⌜ r ≡ u / period ⌝ }
 {
     u / period
@@ -24,7 +25,7 @@ fn whole_periods(u: u64, period: u64) -> u64
 
 // As many of some accesses of d cycles as fit into the cycles left: no division where they all do.
 fn fitting(demand: u64, d: u64, left: u64) -> u64
-    requires { ⌜ (demand ≤ 2 ^ 12) × Between 1 255 d × (left ≤ 2 ^ 29) ⌝ }
+    requires { ⌜ (demand ≤ mostDemand) × Between 1 255 d × (left ≤ longestWindow) ⌝ }
     ensures { λ r. ⌜ r ≡ min demand (ceilDiv left d) ⌝ }
 {
     if demand * d <= left {
@@ -36,7 +37,7 @@ fn fitting(demand: u64, d: u64, left: u64) -> u64
 
 // The accesses in a window of u cycles, of a task with so many a period: no division of u where it is shorter than a period.
 fn in_window(demand: u64, d: u64, period: u64, u: u64) -> u64
-    requires { ⌜ (demand ≤ 2 ^ 12) × Between 1 255 d × Between 1 268435455 period × (u ≤ 2 ^ 29) ⌝ }
+    requires { ⌜ (demand ≤ mostDemand) × Between 1 255 d × Between 1 longestPeriod period × (u ≤ longestWindow) ⌝ }
     ensures { λ r. ⌜ r ≡ demand * (u / period) + min demand (ceilDiv (u % period) d) ⌝ }
 {
     if u < period {

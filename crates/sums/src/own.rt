@@ -7,12 +7,13 @@ use board::fields::period;
 use folds::ceil_div_tested;
 use folds::wide;
 ghost use mathlib.Core.Path.{_≡_};
-ghost use Prim.Native.Nat.{_+_, _<_, _≤_, _^_};
+ghost use Prim.Native.Nat.{_+_, _<_, _≤_};
 ghost use lib.ListN.{getD};
 ghost use Rattle.board.specs.Layout as at;
 ghost use Rattle.board.specs.Sound.{Sound};
 ghost use Rattle.figures.specs.Figures.{taskPD};
 ghost use Rattle.sums.specs.Sums as spec;
+ghost use Rattle.sums.specs.Limits.{mostReleases, mostOwnAccesses, mostHigherWork};
 ghost use Rattle.sums.specs.Inputs.{Holds, Times, RowInput, releaseCost};
 
 // The accesses and the work of some releases.
@@ -24,7 +25,7 @@ pub struct OwnSums {
 // ceil(t/T_k): the releases of task k within the time of task i.
 fn releases(board: &[u32], times: &[u32], i: usize, k: usize) -> u64
     requires { ⌜ (Sound (now board)) × Times (now board) (now times) × (i < at.tasks (now board)) × (k < at.tasks (now board)) ⌝ }
-    ensures { λ r. ⌜ (r ≡ spec.releases (now (board .entry)) i k (getD (now (times .entry)) i 0)) × (r ≤ 2 ^ 28) ⌝ }
+    ensures { λ r. ⌜ (r ≡ spec.releases (now (board .entry)) i k (getD (now (times .entry)) i 0)) × (r ≤ mostReleases) ⌝ }
 {
     ceil_div_tested(time(board, times, i), wide(period(board, k)))
 }
@@ -40,7 +41,7 @@ fn with_task(
     k: usize,
 ) -> OwnSums
     requires { ⌜ RowInput (now board) (now own) (now times) i i × Holds (at.tasks (now board)) (taskPD (now board)) (now pd) × (k < at.tasks (now board)) ⌝ }
-    requires { ⌜ (sums .accesses ≤ 2 ^ 46) × (sums .work ≤ 2 ^ 56) ⌝ }
+    requires { ⌜ (sums .accesses ≤ mostOwnAccesses) × (sums .work ≤ mostHigherWork) ⌝ }
     ensures { λ r. ⌜ r .accesses ≡ sums .accesses + releaseCost (now (board .entry)) (now (times .entry)) i (spec.memoryDemand (now (board .entry)) i) k ⌝ }
     ensures { λ r. ⌜ r .work ≡ sums .work + releaseCost (now (board .entry)) (now (times .entry)) i (taskPD (now (board .entry))) k ⌝ }
 {

@@ -1,19 +1,20 @@
 // One accessor a list: the number of task k, with its range.
 use folds::wide;
 ghost use mathlib.Core.Path.{_≡_};
-ghost use Prim.Native.Nat.{_<_, _≤_, _^_};
+ghost use Prim.Native.Nat.{_<_, _≤_};
 ghost use lib.ListN.{getD};
 ghost use Rattle.board.specs.Layout as at;
 ghost use Rattle.board.specs.Sound.{Sound};
 ghost use Rattle.figures.specs.Figures.{taskPD};
 ghost use Rattle.sums.specs.Sums as spec;
 ghost use Rattle.sums.specs.Sums.{memoryDemand};
+ghost use Rattle.sums.specs.Limits.{longestPeriod, latestTime, mostWork, mostDemand};
 ghost use Rattle.sums.specs.Inputs.{Holds, Times};
 
 // PD of task k.
 pub fn work(board: &[u32], pd: &[u32], k: usize) -> u64
     requires { ⌜ (Sound (now board)) × Holds (at.tasks (now board)) (taskPD (now board)) (now pd) × (k < at.tasks (now board)) ⌝ }
-    ensures { λ r. ⌜ (r ≡ taskPD (now (board .entry)) k) × (r ≤ 2 ^ 22) ⌝ }
+    ensures { λ r. ⌜ (r ≡ taskPD (now (board .entry)) k) × (r ≤ mostWork) ⌝ }
 {
     wide(pd[k])
 }
@@ -21,7 +22,7 @@ pub fn work(board: &[u32], pd: &[u32], k: usize) -> u64
 // D'(j, k), from the row of j.
 pub fn demand(board: &[u32], row: &[u32], j: usize, k: usize) -> u64
     requires { ⌜ (Sound (now board)) × Holds (at.tasks (now board)) (memoryDemand (now board) j) (now row) × (k < at.tasks (now board)) ⌝ }
-    ensures { λ r. ⌜ (r ≡ memoryDemand (now (board .entry)) j k) × (r ≤ 2 ^ 12) ⌝ }
+    ensures { λ r. ⌜ (r ≡ memoryDemand (now (board .entry)) j k) × (r ≤ mostDemand) ⌝ }
 {
     wide(row[k])
 }
@@ -29,7 +30,7 @@ pub fn demand(board: &[u32], row: &[u32], j: usize, k: usize) -> u64
 // The largest time of task k that is not late.
 pub fn bound(board: &[u32], k: usize) -> u32
     requires { ⌜ (Sound (now board)) × (k < at.tasks (now board)) ⌝ }
-    ensures { λ r. ⌜ (r ≡ spec.bound (now (board .entry)) k) × (r ≤ 268435455) ⌝ }
+    ensures { λ r. ⌜ (r ≡ spec.bound (now (board .entry)) k) × (r ≤ longestPeriod) ⌝ }
 {
     board::fields::deadline(board, k)
 }
@@ -37,7 +38,7 @@ pub fn bound(board: &[u32], k: usize) -> u32
 // The time of task k.
 pub fn time(board: &[u32], times: &[u32], k: usize) -> u64
     requires { ⌜ (Sound (now board)) × Times (now board) (now times) × (k < at.tasks (now board)) ⌝ }
-    ensures { λ r. ⌜ (r ≡ getD (now (times .entry)) k 0) × (r ≤ 2 ^ 28) ⌝ }
+    ensures { λ r. ⌜ (r ≡ getD (now (times .entry)) k 0) × (r ≤ latestTime) ⌝ }
 {
     wide(times[k])
 }

@@ -6,6 +6,7 @@ use native.Mathlib.Nat.{le-trans, le-of-eq, lt-of-le-of-lt}
 use Prim.Native.Nat.{ℕ, _+_, _*_, _≤_, _<_, _^_}
 use Rattle.board.specs.Layout.{refresh}
 use Rattle.sums.specs.Sums.{busAccesses, taskSum}
+use Rattle.sums.specs.Limits.{mostBusAccesses}
 use Rattle.sums.proofs.Numbers.{product-fits}
 use Rattle.sums.proofs.Inputs.{own-row, all-row}
 use Rattle.interference.proofs.Parts.{taskSum-is}
@@ -35,7 +36,7 @@ count-is : (c : tie.After-interference) → count c ≡ accesses (start c)
 unfolding busAccesses
 count-is c = ap₂ (λ (s n : ℕ). s + n + 1) (c .before .released .ensures .0) (c .interference .ensures)
 
-few : (c : tie.After-interference) → count c ≤ 2 ^ 53
+few : (c : tie.After-interference) → count c ≤ mostBusAccesses
 few c =
     let h = start c .pre in
     le-trans (le-of-eq (count-is c)) (busAccesses-bound _ _ (h .sound) (h .times .short) _ (h .task))
@@ -51,7 +52,7 @@ mul-stall c =
     let s = start (c .before .before .before .before .before) in
     let h = s .pre in
     let most = refreshes-bound _ _ (h .sound) (h .times .short) _ (h .task) (refresh (s .args .board .now)) in
-    product-fits (2 ^ 53) 255 (le-trans (le-of-eq (c .refreshes .ensures)) most) (omega arith) (lit< tt)
+    product-fits mostBusAccesses 255 (le-trans (le-of-eq (c .refreshes .ensures)) most) (omega arith) (lit< tt)
 
 -- the whole sum, which is below 2^64
 abbrev counted : tie.After-work → tie.After-interference
@@ -79,7 +80,7 @@ task-sum-spec =
     tie.close
     (tie.spec (λ c κs. search needs) interference-requires (λ c. omega (arith, few c)) (λ c. omega (arith, few c))
     (λ c κs. search needs) (λ c κs. search needs) (λ c κs. search needs) (λ c κs. search needs)
-    (λ c. product-fits (2 ^ 53) 255 (few (c .before .before .before .before)) (omega arith) (lit< tt))
+    (λ c. product-fits mostBusAccesses 255 (few (c .before .before .before .before)) (omega arith) (lit< tt))
     refreshes-requires mul-stall (λ c κs. search needs)
     (λ c. omega (arith, total-fits (c .before))) (λ c. omega (arith, total-fits (c .before))) (λ c. omega (arith, total-fits (c .before)))
     (λ c. total-is (c .before)))

@@ -2,7 +2,8 @@ use borrow.Author.Needs.{needs}
 use native.Mathlib.Omega.{arith}
 use lib.Dec.{lit<}
 use mathlib.Core.Path.{_∙_}
-use Prim.Native.Nat.{_+_, _^_}
+use Prim.Native.Nat.{_+_}
+use Rattle.sums.specs.Limits.{mostOwnAccesses}
 use Rattle.sums.proofs.Numbers.{product-cong, product-fits}
 use Rattle.interference.proofs.ByCore.{round-robin-is}
 use Rattle.sums.proofs.Bounds.{own-bound}
@@ -16,7 +17,7 @@ by-core-requires c κs = rw (c .lowest .ensures) (c .before .before .before .bef
 mul-sum-capped : tie.Need-mul-sum-capped
 mul-sum-capped c =
     let s = c .before .before .before .before .before .before .before .before .before in
-    product-fits 8 (2 ^ 46) (omega arith) (omega (arith, s .pre .1, own-bound _ _ _ _ _ (s .pre .0 .0))) (lit< tt)
+    product-fits 8 mostOwnAccesses (omega arith) (omega (arith, s .pre .1, own-bound _ _ _ _ _ (s .pre .0 .0))) (lit< tt)
 
 sum-capped-requires : tie.Need-sum-capped-requires
 sum-capped-requires c κs =

@@ -1,9 +1,10 @@
 use borrow.Author.Needs.{needs}
 use native.Mathlib.Omega.{arith}
 use lib.Dec.{lit<}
-use Prim.Native.Nat.{_*_, _-_, _≤_, _^_}
+use Prim.Native.Nat.{_*_, _-_, _≤_}
 use mathlib.Core.Path.{_∙_}
 use Rattle.interference.proofs.Parts.{tdma-is}
+use Rattle.sums.specs.Limits.{mostOwnAccesses}
 use Rattle.sums.proofs.Numbers.{product-bound, product-fits}
 use Rattle.interference.proofs.bus.tdma.Statement.{statement}
 use Rattle.interference.proofs.bus.tdma.Tie as tie
@@ -23,4 +24,4 @@ tdma-spec =
     tie.close
     (tie.spec (λ c κs. search needs) (λ c κs. search needs) (λ c κs. search needs) (λ c κs. search needs) (λ c. search needs)
     (λ c. product-fits 7 8 (omega arith) (omega arith) (lit< tt))
-    (λ c. product-fits 56 (2 ^ 46) (few c) (omega arith) (lit< tt)) returns)
+    (λ c. product-fits 56 mostOwnAccesses (few c) (omega arith) (lit< tt)) returns)

@@ -2,12 +2,13 @@ use borrow.Author.Needs.{needs}
 use native.Mathlib.Omega.{arith}
 use mathlib.Core.Bool.{Bool}
 use mathlib.Core.Path.{_≡_, sym}
-use Prim.Native.Nat.{ℕ, _+_, _-_, _≤_, _^_}
+use Prim.Native.Nat.{ℕ, _+_, _-_, _≤_}
 use lib.Dec.{ltb}
 use Rattle.folds.specs.Folds.{when, sumTo}
 use Rattle.folds.proofs.Loops.{at-end}
 use Rattle.board.specs.Layout.{core}
 use Rattle.sums.specs.Sums.{carryIn}
+use Rattle.sums.specs.Limits.{mostAccesses}
 use Rattle.interference.specs.Terms.{carriedIf, carriedBy}
 use Rattle.interference.proofs.BySide.{carried-none, carried-turn}
 use Rattle.interference.proofs.Bounds.{carriedIf-bound}
@@ -33,7 +34,7 @@ beyond s y = ltb (core (s .args .board .now) (s .args .i)) y
 abbrev terms : tie.Start Inv-loop μ-loop → (ℕ → Bool) → ℕ → ℕ
 terms s test k = carriedIf (s .args .board .now) (s .args .times .now) (s .args .i) test (s .args .j) (s .args .a) k
 
-few : (s : tie.Start Inv-loop μ-loop) (test : ℕ → Bool) (k : ℕ) {n : ℕ} → k ≤ s .args .j + 1 → n ≡ sumTo (terms s test) k → n ≤ 2 ^ 48
+few : (s : tie.Start Inv-loop μ-loop) (test : ℕ → Bool) (k : ℕ) {n : ℕ} → k ≤ s .args .j + 1 → n ≡ sumTo (terms s test) k → n ≤ mostAccesses
 few s test k h e =
     omega (arith, carriedIf-bound (s .args .board .now) (s .args .row .now) (s .args .times .now) (s .args .i) (s .args .j) (s .pre .0) test (s .args .a) k h)
 

@@ -1,13 +1,14 @@
 use borrow.Author.Needs.{needs}
 use native.Mathlib.Omega.{arith}
-use Prim.Native.Nat.{_≤_, _^_}
+use Prim.Native.Nat.{_≤_}
 use Rattle.interference.proofs.Numbers.{apart}
+use Rattle.sums.specs.Limits.{mostCarryIn}
 use Rattle.sums.proofs.Bounds.{carry-bound}
 use Rattle.interference.proofs.BySide.{add-below, add-beyond}
 use Rattle.interference.proofs.sides.with_task.Statement.{statement}
 use Rattle.interference.proofs.sides.with_task.Tie as tie
 
-few : (c : tie.After-carry-in) → c .carry-in .result ≤ 2 ^ 42
+few : (c : tie.After-carry-in) → c .carry-in .result ≤ mostCarryIn
 few c =
     let s = c .before .before .before .before .before .before .before in
     omega (arith, carry-bound _ _ _ _ _ (s .pre .0) _ (s .pre .1))

@@ -2,12 +2,13 @@ use borrow.Author.Needs.{needs}
 use native.Mathlib.Omega.{arith}
 use lib.Dec.{lit<}
 use mathlib.Core.Path.{_≡_, refl, sym, _∙_}
-use Prim.Native.Nat.{_-_, _≤_, _^_}
+use Prim.Native.Nat.{_-_, _≤_}
 use Rattle.folds.specs.Folds.{sumTo}
 use Rattle.folds.proofs.Folds.{sumTo-none}
 use Rattle.folds.proofs.Loops.{at-end, sumTo-turn}
 use Rattle.figures.specs.Figures.{taskPD}
 use Rattle.sums.specs.Sums.{memoryDemand, ownAccesses, higherWork}
+use Rattle.sums.specs.Limits.{mostWork, mostDemand, mostReleases, mostOwnAccesses, mostHigherWork}
 use Rattle.sums.specs.Inputs.{releaseCost}
 use Rattle.sums.proofs.Numbers.{product-bound, product-fits}
 use Rattle.sums.proofs.Releases.{releaseCost-last}
@@ -22,16 +23,16 @@ Inv-loop board pd own times i sums₀ k₀ sums k =
 abbrev μ-loop : tie.MeasureT-loop
 μ-loop board pd own times i sums₀ k₀ sums k = i - k
 
-few-accesses : (c : tie.At-loop Inv-loop μ-loop) → c .loop .sums .accesses ≤ 2 ^ 46
+few-accesses : (c : tie.At-loop Inv-loop μ-loop) → c .loop .sums .accesses ≤ mostOwnAccesses
 few-accesses c =
     let s = c .before .before .before .before .before in
     let h = s .pre .0 in
-    omega (arith, releaseCost-bound _ _ _ _ _ h _ (2 ^ 12) (c .loop .k) (demand-bound _ (h .sound) (s .args .i)) (omega arith))
+    omega (arith, releaseCost-bound _ _ _ _ _ h _ mostDemand (c .loop .k) (demand-bound _ (h .sound) (s .args .i)) (omega arith))
 
-little-work : (c : tie.At-loop Inv-loop μ-loop) → c .loop .sums .work ≤ 2 ^ 56
+little-work : (c : tie.At-loop Inv-loop μ-loop) → c .loop .sums .work ≤ mostHigherWork
 little-work c =
     let h = c .before .before .before .before .before .pre .0 in
-    omega (arith, releaseCost-bound _ _ _ _ _ h _ (2 ^ 22) (c .loop .k) (work-bound _ (h .sound)) (omega arith))
+    omega (arith, releaseCost-bound _ _ _ _ _ h _ mostWork (c .loop .k) (work-bound _ (h .sound)) (omega arith))
 
 with-task-requires : tie.Need-with-task-requires Inv-loop μ-loop
 with-task-requires c κs =
@@ -43,7 +44,7 @@ add-last c =
     omega (
       arith,
       few-accesses (c .before .before .before .before),
-      product-bound {x = c .before .before .releases .result} {y = c .before .demand .result} (2 ^ 28) (2 ^ 12) (omega arith) (omega arith),
+      product-bound {x = c .before .before .releases .result} {y = c .before .demand .result} mostReleases mostDemand (omega arith) (omega arith),
     )
 
 loop-again : tie.Need-loop-again Inv-loop μ-loop
@@ -68,4 +69,4 @@ released-spec =
     tie.close
     (tie.spec Inv-loop μ-loop (λ c. (omega arith, sym (sumTo-none _), sym (sumTo-none _))) with-task-requires (λ c. search needs) (λ c. search needs)
     loop-again
-    (λ c κs. search needs) (λ c κs. search needs) (λ c. product-fits (2 ^ 28) (2 ^ 12) (omega arith) (omega arith) (lit< tt)) add-last returns)
+    (λ c κs. search needs) (λ c κs. search needs) (λ c. product-fits mostReleases mostDemand (omega arith) (omega arith) (lit< tt)) add-last returns)

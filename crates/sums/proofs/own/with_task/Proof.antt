@@ -1,17 +1,18 @@
 use borrow.Author.Needs.{needs}
 use native.Mathlib.Omega.{arith}
 use lib.Dec.{lit<}
-use Prim.Native.Nat.{_*_, _≤_, _^_}
+use Prim.Native.Nat.{_*_, _≤_}
+use Rattle.sums.specs.Limits.{mostWork, mostDemand, mostReleases}
 use Rattle.sums.proofs.Numbers.{product-cong, product-bound, product-fits}
 use Rattle.sums.proofs.Releases.{add-on, add-off}
 use Rattle.sums.proofs.own.with_task.Statement.{statement}
 use Rattle.sums.proofs.own.with_task.Tie as tie
 
-more-accesses : (c : tie.After-work) → c .before .before .releases .result * c .before .demand .result ≤ 2 ^ 28 * 2 ^ 12
-more-accesses c = product-bound (2 ^ 28) (2 ^ 12) (omega arith) (omega arith)
+more-accesses : (c : tie.After-work) → c .before .before .releases .result * c .before .demand .result ≤ mostReleases * mostDemand
+more-accesses c = product-bound mostReleases mostDemand (omega arith) (omega arith)
 
-more-work : (c : tie.After-work) → c .before .before .releases .result * c .work .result ≤ 2 ^ 28 * 2 ^ 22
-more-work c = product-bound (2 ^ 28) (2 ^ 22) (omega arith) (omega arith)
+more-work : (c : tie.After-work) → c .before .before .releases .result * c .work .result ≤ mostReleases * mostWork
+more-work c = product-bound mostReleases mostWork (omega arith) (omega arith)
 
 returns : tie.Need-returns
 returns c =
@@ -33,7 +34,7 @@ pub with-task-spec : {M : Type 1} → statement M
 with-task-spec =
     tie.close
     (tie.spec (λ c κs. search needs) (λ c κs. search needs) (λ c κs. search needs) (λ c κs. search needs)
-    (λ c. product-fits (2 ^ 28) (2 ^ 12) (omega arith) (omega arith) (lit< tt)) (λ c κs. search needs)
-    (λ c. product-fits (2 ^ 28) (2 ^ 22) (omega arith) (omega arith) (lit< tt))
+    (λ c. product-fits mostReleases mostDemand (omega arith) (omega arith) (lit< tt)) (λ c κs. search needs)
+    (λ c. product-fits mostReleases mostWork (omega arith) (omega arith) (lit< tt))
     (λ c. omega (arith, more-accesses (c .before))) (λ c. omega (arith, more-work (c .before .before)))
     returns returns-2)

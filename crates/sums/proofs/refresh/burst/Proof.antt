@@ -1,8 +1,8 @@
 use borrow.Author.Needs.{needs}
 use native.Mathlib.Omega.{arith}
 use lib.Dec.{lit<}
-use Prim.Native.Nat.{_^_}
 use mathlib.Core.Path.{_∙_}
+use Rattle.sums.specs.Limits.{latestTime}
 use Rattle.sums.proofs.Refreshes.{burst-is}
 use Rattle.sums.proofs.Numbers.{product-fits}
 use Rattle.sums.proofs.refresh.burst.Statement.{statement}
@@ -18,4 +18,4 @@ pub burst-spec : {M : Type 1} → statement M
 burst-spec =
     tie.close
     (tie.spec (λ c κs. search needs) (λ c κs. search needs) (λ c κs. search needs) (λ c κs. search needs) (λ c κs. search needs) (λ c κs. search needs)
-    (λ c. product-fits (2 ^ 28) 65535 (omega arith) (omega arith) (lit< tt)) returns)
+    (λ c. product-fits latestTime 65535 (omega arith) (omega arith) (lit< tt)) returns)

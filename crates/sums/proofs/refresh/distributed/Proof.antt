@@ -1,8 +1,8 @@
 use borrow.Author.Needs.{needs}
 use native.Mathlib.Omega.{arith}
 use lib.Dec.{lit<}
-use Prim.Native.Nat.{_^_}
 use mathlib.Core.Path.{_∙_}
+use Rattle.sums.specs.Limits.{latestTime}
 use Rattle.sums.proofs.Refreshes.{distributed-is}
 use Rattle.sums.proofs.Numbers.{product-bound, product-fits}
 use Rattle.sums.proofs.refresh.distributed.Statement.{statement}
@@ -20,6 +20,6 @@ pub distributed-spec : {M : Type 1} → statement M
 distributed-spec =
     tie.close
     (tie.spec (λ c κs. search needs) (λ c κs. search needs) (λ c κs. search needs) (λ c κs. search needs) (λ c κs. search needs)
-    (λ c. product-fits (2 ^ 28) 65535 (omega arith) (omega arith) (lit< tt))
-    (λ c κs. omega (arith, product-bound {x = c .before .before .before .before .time .result} {y = c .wide2 .result} (2 ^ 28) 65535 (omega arith) (omega arith)))
+    (λ c. product-fits latestTime 65535 (omega arith) (omega arith) (lit< tt))
+    (λ c κs. omega (arith, product-bound {x = c .before .before .before .before .time .result} {y = c .wide2 .result} latestTime 65535 (omega arith) (omega arith)))
     (λ c κs. search needs) returns)

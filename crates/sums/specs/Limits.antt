@@ -1,0 +1,58 @@
+-- How large the numbers of a sum can be, on a board that passed its checks and at times of at most D + 1. For the code, which stays below
+-- 2^64 by them: proofs/Bounds.antt proves each, and a reader of the definitions can pass this file by.
+-- Assumes nothing.
+use Prim.Native.Nat.{ℕ, _+_, _*_, _^_}
+
+-- ---- of one task
+
+-- T and D
+abbrev pub longestPeriod : ℕ
+longestPeriod = 268435455
+
+-- a time: D + 1
+abbrev pub latestTime : ℕ
+latestTime = longestPeriod + 1
+
+-- PD of 1,024 instructions
+abbrev pub mostWork : ℕ
+mostWork = 2 ^ 22
+
+-- D': MD of 1,024 instructions, and the reloads of 256 sets
+abbrev pub mostDemand : ℕ
+mostDemand = 2 ^ 12
+
+-- ceil(t/T)
+abbrev pub mostReleases : ℕ
+mostReleases = latestTime
+
+-- u, which is at most t + R_k
+abbrev pub longestWindow : ℕ
+longestWindow = 2 * latestTime
+
+-- W: D' in each period of the window, and once more
+abbrev pub mostCarryIn : ℕ
+mostCarryIn = mostDemand * longestWindow + mostDemand
+
+-- ---- of 64 tasks
+
+-- S
+abbrev pub mostOwnAccesses : ℕ
+mostOwnAccesses = 64 * (mostReleases * mostDemand)
+
+-- the work of higher tasks
+abbrev pub mostHigherWork : ℕ
+mostHigherWork = 64 * (mostReleases * mostWork)
+
+-- A, L, and every other sum of W over tasks
+abbrev pub mostAccesses : ℕ
+mostAccesses = 64 * mostCarryIn
+
+-- ---- on the bus
+
+-- of other cores: TDMA comes nearest, with 7 × 8 × S
+abbrev pub mostInterference : ℕ
+mostInterference = 2 ^ 52
+
+-- B, and the refreshes
+abbrev pub mostBusAccesses : ℕ
+mostBusAccesses = 2 ^ 53
