@@ -12,29 +12,32 @@ use Rattle.folds.proofs.Numbers.{when-bound}
 use Rattle.folds.proofs.Folds.{sumTo-bound}
 use Rattle.board.specs.Layout.{tasks, core}
 use Rattle.sums.specs.Sums.{carryIn}
-use Rattle.sums.specs.Limits.{mostCarryIn, mostAccesses}
+use Rattle.sums.specs.Limits.{latestTime, mostCarryIn, mostAccesses}
 use Rattle.sums.specs.Inputs.{RowInput}
-use Rattle.sums.proofs.Bounds.{where-bound, carry-bound}
+use Rattle.sums.proofs.Bounds.{where-bound, carryIn-bound}
 use Rattle.interference.specs.Terms.{carriedIf, carriedOff, carriedFrom}
 
-module _ (b row R : List ℕ) (i j : ℕ) (h : RowInput b row R i j) where
+module _ (b row R : List ℕ) (j t : ℕ) (h : RowInput b row R j) (early : t ≤ latestTime) where
+  carry : (k : ℕ) → k < tasks b → carryIn b R t j k ≤ mostCarryIn
+  carry = carryIn-bound b R (h .sound) (h .times) t early j
+
   -- any terms of at most W's bound, over the tasks up to j
   some-bound : (test : ℕ → Bool) (f : ℕ → ℕ) (m : ℕ) → m ≤ j + 1 → ((k : ℕ) → k < tasks b → f k ≤ mostCarryIn) → sumWhere test f m ≤ mostAccesses
   some-bound test f m few small =
-      where-bound m 64 mostCarryIn test f (omega (arith, h .sound .tasks .1, h .below)) (λ k l. small k (omega (arith, h .below)))
+      where-bound m 64 mostCarryIn test f (omega (arith, h .sound .tasks .1, h .task)) (λ k l. small k (omega (arith, h .task)))
 
-  pub carriedIf-bound : (test : ℕ → Bool) (a m : ℕ) → m ≤ j + 1 → sumTo (carriedIf b R i test j a) m ≤ mostAccesses
-  carriedIf-bound test a m few = some-bound (λ k. leb a k && test (core b k)) (λ k. carryIn b R i j k) m few (carry-bound b row R i j h)
+  pub carriedIf-bound : (test : ℕ → Bool) (a m : ℕ) → m ≤ j + 1 → sumTo (carriedIf b R t test j a) m ≤ mostAccesses
+  carriedIf-bound test a m few = some-bound (λ k. leb a k && test (core b k)) (λ k. carryIn b R t j k) m few carry
 
-  pub carriedOff-bound : (k : ℕ) → k < tasks b → carriedOff b R i j k ≤ mostCarryIn
-  carriedOff-bound k l = when-bound (not (eqb (core b k) (core b i))) (carry-bound b row R i j h k l)
+  pub carriedOff-bound : (x k : ℕ) → k < tasks b → carriedOff b R t x j k ≤ mostCarryIn
+  carriedOff-bound x k l = when-bound (not (eqb (core b k) x)) (carry k l)
 
-  pub onCore-bound : (y m : ℕ) → m ≤ j + 1 → sumTo (λ k. when (eqb (core b k) y) (carriedOff b R i j k)) m ≤ mostAccesses
-  onCore-bound y m few = some-bound (λ k. eqb (core b k) y) (carriedOff b R i j) m few carriedOff-bound
+  pub onCore-bound : (x y m : ℕ) → m ≤ j + 1 → sumTo (λ k. when (eqb (core b k) y) (carriedOff b R t x j k)) m ≤ mostAccesses
+  onCore-bound x y m few = some-bound (λ k. eqb (core b k) y) (carriedOff b R t x j) m few (carriedOff-bound x)
 
-  pub carriedFrom-bound : (y : ℕ) → carriedFrom b R i j y ≤ mostAccesses
+  pub carriedFrom-bound : (x y : ℕ) → carriedFrom b R t x j y ≤ mostAccesses
   unfolding carriedFrom
-  carriedFrom-bound y = onCore-bound y (j + 1) (omega arith)
+  carriedFrom-bound x y = onCore-bound x y (j + 1) (omega arith)
 
 -- the first n of eight sums, each at most cap
 pub capped-bound : (t : List ℕ) (n cap : ℕ) → n ≤ 8 → ((y : ℕ) → y < 8 → getD t y 0 ≤ mostAccesses) → sumTo (λ y. min (getD t y 0) cap) n < 2 ^ 64

@@ -61,20 +61,21 @@ off-core c x y v = go (ℕ-discrete c y)
     go (yes e) = rw (eq-eqb c y e) (ap (λ (z : ℕ). when (not (eqb z x)) v) e)
     go (no n) = rw (ne-eqb c y n) (sym (when-zero (not (eqb y x))))
 
-module _ (b R : List ℕ) (i : ℕ) where
-  carriedFrom-is : (j y : ℕ) → carriedFrom b R i j y ≡ when (not (eqb y (core b i))) (coreAccesses b R i j y)
-  unfolding carriedFrom coreAccesses
-  carriedFrom-is j y =
-      sumTo-cong _ _ (j + 1) (λ k h. off-core (core b k) (core b i) y (carryIn b R i j k))
-      ∙ sym (when-sum (not (eqb y (core b i))) (λ k. when (eqb (core b k) y) (carryIn b R i j k)) (j + 1))
+carriedFrom-is : (b R : List ℕ) (t x j y : ℕ) → carriedFrom b R t x j y ≡ when (not (eqb y x)) (coreAccesses b R t j y)
+unfolding carriedFrom coreAccesses
+carriedFrom-is b R t x j y =
+    sumTo-cong _ _ (j + 1) (λ k h. off-core (core b k) x y (carryIn b R t j k))
+    ∙ sym (when-sum (not (eqb y x)) (λ k. when (eqb (core b k) y) (carryIn b R t j k)) (j + 1))
 
-  -- j is task n as code computes it
-  pub round-robin-is : (table : List ℕ) {j n cap : ℕ} → j ≡ lowest b → Holds 8 (λ y. carriedFrom b R i j (y + 1)) table → cores b ≤ 8 → n ≡ cores b
-      → cap ≡ slotsEach b * ownAccesses b R i → sumTo (λ y. min (getD table y 0) cap) n ≡ interference b R i 3
-  unfolding interference
-  round-robin-is table low h few e same =
-      ap₂ (λ (m c : ℕ). sumTo (λ y. min (getD table y 0) c) m) e same
-      ∙ sumTo-cong _ _ (cores b)
-      (λ y l.
-      ap (λ (v : ℕ). min v (slotsEach b * ownAccesses b R i)) (h .at y (omega arith) ∙ ap (λ (m : ℕ). carriedFrom b R i m (y + 1)) low ∙ carriedFrom-is (lowest b) (y + 1))
-      ∙ when-min (not (eqb (y + 1) (core b i))) (coreAccesses b R i (lowest b) (y + 1)) (slotsEach b * ownAccesses b R i))
+-- t, x, j and n are the time and the core of task i, task n, and the cores, as code computes them
+pub round-robin-is : (b R : List ℕ) (i : ℕ) (table : List ℕ) {t x j n cap : ℕ} → t ≡ getD R i 0 → x ≡ core b i → j ≡ lowest b
+    → Holds 8 (λ y. carriedFrom b R t x j (y + 1)) table → cores b ≤ 8 → n ≡ cores b → cap ≡ slotsEach b * ownAccesses b R i
+    → sumTo (λ y. min (getD table y 0) cap) n ≡ interference b R i 3
+unfolding interference
+round-robin-is b R i table now here last h few e same =
+    ap₂ (λ (m c : ℕ). sumTo (λ y. min (getD table y 0) c) m) e same
+    ∙ sumTo-cong _ _ (cores b)
+    (λ y l.
+    ap (λ (v : ℕ). min v (slotsEach b * ownAccesses b R i))
+    (h .at y (omega arith) ∙ rw (now, here, last) (carriedFrom-is b R (getD R i 0) (core b i) (lowest b) (y + 1)))
+    ∙ when-min (not (eqb (y + 1) (core b i))) (coreAccesses b R (getD R i 0) (lowest b) (y + 1)) (slotsEach b * ownAccesses b R i))

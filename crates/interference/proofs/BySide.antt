@@ -7,6 +7,7 @@ use mathlib.Core.Path.{_≡_, sym, ap, ap₂, _∙_}
 use native.Mathlib.Numerals.{add-one}
 use native.Mathlib.Omega.{arith}
 use lib.Dec.{ltb, leb, leb·zero}
+use lib.ListN.{getD}
 use borrow.Author.Tests.{lt-ltb, le-ltb, le-leb, lt-leb}
 use Rattle.folds.specs.Folds.{when, sumTo}
 use Rattle.folds.proofs.Folds.{sumTo-next, sumTo-cong, sumTo-zero}
@@ -24,76 +25,79 @@ module _ {c x y z : ℕ} (acc : ℕ) (p : y ≡ c) (q : z ≡ x) where
   pub add-beyond : (w : ℕ) → z ≤ y → acc ≡ acc + when (ltb c x) w
   add-beyond w l = omega (arith, ap (λ (t : Bool). when t w) (le-ltb c x (omega arith)))
 
-module _ (b R : List ℕ) (i : ℕ) where
+module _ (b R : List ℕ) (t : ℕ) where
   -- ---- a run of tasks from a on
 
   module _ (test : ℕ → Bool) (j a : ℕ) where
-    pub carried-none : sumTo (carriedIf b R i test j a) a ≡ 0
+    pub carried-none : sumTo (carriedIf b R t test j a) a ≡ 0
     carried-none =
-        sumTo-zero (carriedIf b R i test j a) a
-        (λ k h. ap (λ (t : Bool). when (t && test (core b k)) (carryIn b R i j k)) (lt-leb a k h))
+        sumTo-zero (carriedIf b R t test j a) a
+        (λ k h. ap (λ (here : Bool). when (here && test (core b k)) (carryIn b R t j k)) (lt-leb a k h))
 
-    pub carried-turn : (k : ℕ) {acc next : ℕ} → a ≤ k → acc ≡ sumTo (carriedIf b R i test j a) k
-        → next ≡ acc + when (test (core b k)) (carryIn b R i j k) → next ≡ sumTo (carriedIf b R i test j a) (k + 1)
+    pub carried-turn : (k : ℕ) {acc next : ℕ} → a ≤ k → acc ≡ sumTo (carriedIf b R t test j a) k
+        → next ≡ acc + when (test (core b k)) (carryIn b R t j k) → next ≡ sumTo (carriedIf b R t test j a) (k + 1)
     carried-turn k h e n =
         n
-        ∙ ap₂ _+_ e (ap (λ (t : Bool). when (t && test (core b k)) (carryIn b R i j k)) (sym (le-leb a k h)))
-        ∙ sym (sumTo-next (carriedIf b R i test j a) k)
+        ∙ ap₂ _+_ e (ap (λ (here : Bool). when (here && test (core b k)) (carryIn b R t j k)) (sym (le-leb a k h)))
+        ∙ sym (sumTo-next (carriedIf b R t test j a) k)
 
   -- ---- sums over the cores that pass a test
 
   module _ (s : Sound b) (test : ℕ → Bool) where
     -- ΣA(j, y)
-    coreAccesses-carried : (j : ℕ) → j < tasks b → overCores b test (λ y. coreAccesses b R i j y) ≡ carriedBy b R i test j 0
+    coreAccesses-carried : (j : ℕ) → j < tasks b → overCores b test (λ y. coreAccesses b R t j y) ≡ carriedBy b R t test j 0
     unfolding coreAccesses carriedBy
     coreAccesses-carried j h =
-        overCores-tasks b test (λ _. true) (λ k. carryIn b R i j k) (j + 1) (λ k l. s .core k (omega arith))
-        ∙ sumTo-cong (λ k. when (test (core b k)) (carryIn b R i j k)) (carriedIf b R i test j 0) (j + 1)
-        (λ k l. ap (λ (t : Bool). when (t && test (core b k)) (carryIn b R i j k)) (sym (leb·zero k)))
+        overCores-tasks b test (λ _. true) (λ k. carryIn b R t j k) (j + 1) (λ k l. s .core k (omega arith))
+        ∙ sumTo-cong (λ k. when (test (core b k)) (carryIn b R t j k)) (carriedIf b R t test j 0) (j + 1)
+        (λ k l. ap (λ (here : Bool). when (here && test (core b k)) (carryIn b R t j k)) (sym (leb·zero k)))
 
     -- ΣL(y)
-    lowerAccesses-carried : i < tasks b → overCores b test (λ y. lowerAccesses b R i y) ≡ carriedBy b R i test (lowest b) (i + 1)
+    lowerAccesses-carried : (i : ℕ) → i < tasks b → overCores b test (λ y. lowerAccesses b R t i y) ≡ carriedBy b R t test (lowest b) (i + 1)
     unfolding lowerAccesses carriedBy
-    lowerAccesses-carried h =
+    lowerAccesses-carried i h =
         let whole : tasks b ≡ lowest b + 1 = omega arith in
-        overCores-tasks b test (λ k. ltb i k) (λ k. carryIn b R i (lowest b) k) (tasks b) (λ k l. s .core k l)
-        ∙ ap₂ (λ (n m : ℕ). sumTo (λ k. when (leb n k && test (core b k)) (carryIn b R i (lowest b) k)) m) (sym (add-one i)) whole
+        overCores-tasks b test (λ k. ltb i k) (λ k. carryIn b R t (lowest b) k) (tasks b) (λ k l. s .core k l)
+        ∙ ap₂ (λ (n m : ℕ). sumTo (λ k. when (leb n k && test (core b k)) (carryIn b R t (lowest b) k)) m) (sym (add-one i)) whole
 
-  -- ---- the interference on buses 0, 1 and 2, where j is task n as code computes it
+-- ---- the interference on buses 0, 1 and 2: t, x and j are the time and the core of task i, and task n, as code computes them
 
-  abbrev before : ℕ → Bool
-  before y = ltb y (core b i)
+module _ (b R : List ℕ) (i : ℕ) {t x j : ℕ} (s : Sound b) (task : i < tasks b) (now : t ≡ getD R i 0) (here : x ≡ core b i) (last : j ≡ lowest b) where
+  abbrev before : ℕ → ℕ → Bool
+  before c y = ltb y c
 
-  abbrev after : ℕ → Bool
-  after y = ltb (core b i) y
+  abbrev after : ℕ → ℕ → Bool
+  after c y = ltb c y
 
-  module _ (s : Sound b) (task : i < tasks b) {j : ℕ} (e : j ≡ lowest b) where
-    every : (test : ℕ → Bool) → overCores b test (λ y. coreAccesses b R i (lowest b) y) ≡ carriedBy b R i test j 0
-    every test = coreAccesses-carried s test (lowest b) (omega arith) ∙ ap (λ (m : ℕ). carriedBy b R i test m 0) (sym e)
+  every : (test : ℕ → ℕ → Bool) → overCores b (test (core b i)) (λ y. coreAccesses b R (getD R i 0) (lowest b) y) ≡ carriedBy b R t (test x) j 0
+  every test = rw (now, here, last) (coreAccesses-carried b R (getD R i 0) s (test (core b i)) (lowest b) (omega arith))
 
-    lower : (test : ℕ → Bool) → overCores b test (λ y. lowerAccesses b R i y) ≡ carriedBy b R i test j (i + 1)
-    lower test = lowerAccesses-carried s test task ∙ ap (λ (m : ℕ). carriedBy b R i test m (i + 1)) (sym e)
+  higher : (test : ℕ → ℕ → Bool) → overCores b (test (core b i)) (λ y. coreAccesses b R (getD R i 0) i y) ≡ carriedBy b R t (test x) i 0
+  higher test = rw (now, here) (coreAccesses-carried b R (getD R i 0) s (test (core b i)) i task)
 
-    pub fixed-priority-is : {p q l m own some : ℕ} → p ≡ carriedBy b R i before i 0 → q ≡ carriedBy b R i after i 0
-        → l ≡ carriedBy b R i before j (i + 1) → m ≡ carriedBy b R i after j (i + 1) → own ≡ ownAccesses b R i → some ≡ min own (l + m)
-        → p + q + some ≡ interference b R i 0
-    unfolding interference
-    fixed-priority-is p q l m own some =
-        omega (
-          arith,
-          otherCores-sides b (core b i) (λ y. coreAccesses b R i i y),
-          otherCores-sides b (core b i) (λ y. lowerAccesses b R i y),
-          coreAccesses-carried s before i task,
-          coreAccesses-carried s after i task,
-          lower before,
-          lower after,
-        )
+  lower : (test : ℕ → ℕ → Bool) → overCores b (test (core b i)) (λ y. lowerAccesses b R (getD R i 0) i y) ≡ carriedBy b R t (test x) j (i + 1)
+  lower test = rw (now, here, last) (lowerAccesses-carried b R (getD R i 0) s (test (core b i)) i task)
 
-    pub processor-priority-is : {p q own some : ℕ} → p ≡ carriedBy b R i before j 0 → q ≡ carriedBy b R i after j 0
-        → own ≡ ownAccesses b R i → some ≡ min own q → p + some ≡ interference b R i 1
-    unfolding interference
-    processor-priority-is p q own some = omega (arith, every before, every after)
+  pub fixed-priority-is : {p q l m own some : ℕ} → p ≡ carriedBy b R t (before x) i 0 → q ≡ carriedBy b R t (after x) i 0
+      → l ≡ carriedBy b R t (before x) j (i + 1) → m ≡ carriedBy b R t (after x) j (i + 1) → own ≡ ownAccesses b R i → some ≡ min own (l + m)
+      → p + q + some ≡ interference b R i 0
+  unfolding interference
+  fixed-priority-is p q l m own some =
+      omega (
+        arith,
+        otherCores-sides b (core b i) (λ y. coreAccesses b R (getD R i 0) i y),
+        otherCores-sides b (core b i) (λ y. lowerAccesses b R (getD R i 0) i y),
+        higher before,
+        higher after,
+        lower before,
+        lower after,
+      )
 
-    pub fifo-is : {p q : ℕ} → p ≡ carriedBy b R i before j 0 → q ≡ carriedBy b R i after j 0 → p + q ≡ interference b R i 2
-    unfolding interference
-    fifo-is p q = omega (arith, otherCores-sides b (core b i) (λ y. coreAccesses b R i (lowest b) y), every before, every after)
+  pub processor-priority-is : {p q own some : ℕ} → p ≡ carriedBy b R t (before x) j 0 → q ≡ carriedBy b R t (after x) j 0
+      → own ≡ ownAccesses b R i → some ≡ min own q → p + some ≡ interference b R i 1
+  unfolding interference
+  processor-priority-is p q own some = omega (arith, every before, every after)
+
+  pub fifo-is : {p q : ℕ} → p ≡ carriedBy b R t (before x) j 0 → q ≡ carriedBy b R t (after x) j 0 → p + q ≡ interference b R i 2
+  unfolding interference
+  fifo-is p q = omega (arith, otherCores-sides b (core b i) (λ y. coreAccesses b R (getD R i 0) (lowest b) y), every before, every after)

@@ -9,20 +9,20 @@ use Rattle.folds.specs.Folds.{when, sumTo}
 use Rattle.board.specs.Layout.{core}
 use Rattle.sums.specs.Sums.{carryIn}
 
--- task i at the times R
-module _ (b R : List ℕ) (i : ℕ) where
+-- within t cycles, at the times R
+module _ (b R : List ℕ) (t : ℕ) where
   -- W(j, k), if task k is a or after it and its core passes the test
   abbrev pub carriedIf : (ℕ → Bool) → ℕ → ℕ → ℕ → ℕ
-  carriedIf test j a k = when (leb a k && test (core b k)) (carryIn b R i j k)
+  carriedIf test j a k = when (leb a k && test (core b k)) (carryIn b R t j k)
 
   -- over the tasks from a up to j
   unfoldable pub carriedBy : (ℕ → Bool) → ℕ → ℕ → ℕ
   carriedBy test j a = sumTo (carriedIf test j a) (j + 1)
 
-  -- W(j, k), if task k is off the core of task i
-  abbrev pub carriedOff : ℕ → ℕ → ℕ
-  carriedOff j k = when (not (eqb (core b k) (core b i))) (carryIn b R i j k)
+  -- W(j, k), if task k is off core x
+  abbrev pub carriedOff : ℕ → ℕ → ℕ → ℕ
+  carriedOff x j k = when (not (eqb (core b k) x)) (carryIn b R t j k)
 
   -- over the tasks up to j on core y
-  unfoldable pub carriedFrom : ℕ → ℕ → ℕ
-  carriedFrom j y = sumTo (λ k. when (eqb (core b k) y) (carriedOff j k)) (j + 1)
+  unfoldable pub carriedFrom : ℕ → ℕ → ℕ → ℕ
+  carriedFrom x j y = sumTo (λ k. when (eqb (core b k) y) (carriedOff x j k)) (j + 1)

@@ -3,14 +3,16 @@ use crate::sides::sides;
 use crate::tables::by_core;
 use crate::tables::sum_capped;
 use board::fields::bus;
+use board::fields::core;
 use board::fields::cores;
 use board::fields::slots_each;
 use board::fields::tasks;
 use folds::index;
 use folds::smaller;
 use folds::wide;
+use sums::rows::time;
 ghost use mathlib.Core.Path.{_≡_};
-ghost use Prim.Native.Nat.{_≤_};
+ghost use Prim.Native.Nat.{_<_, _≤_};
 ghost use Rattle.board.specs.Layout as at;
 ghost use Rattle.board.specs.Sound.{Sound};
 ghost use Rattle.sums.specs.Sums as spec;
@@ -27,42 +29,47 @@ fn lowest(board: &[u32]) -> usize
 
 // Bus 0, with s the accesses of the task's own core.
 fn fixed_priority(board: &[u32], own: &[u32], all: &[u32], times: &[u32], i: usize, s: u64) -> u64
-    requires { ⌜ RowInput (now board) (now own) (now times) i i × RowInput (now board) (now all) (now times) i (spec.lowest (now board)) ⌝ }
+    requires { ⌜ RowInput (now board) (now own) (now times) i × RowInput (now board) (now all) (now times) (spec.lowest (now board)) ⌝ }
     requires { ⌜ s ≡ spec.ownAccesses (now board) (now times) i ⌝ }
     ensures { λ r. ⌜ r ≡ spec.interference (now (board .entry)) (now (times .entry)) i 0 ⌝ }
 {
-    let above = sides(board, own, times, i, i, 0);
-    let below = sides(board, all, times, i, lowest(board), i + 1);
+    let t = time(board, times, i);
+    let x = core(board, i);
+    let above = sides(board, own, times, t, x, i, 0);
+    let below = sides(board, all, times, t, x, lowest(board), i + 1);
     above.before + above.after + smaller(s, below.before + below.after)
 }
 
 // Bus 1.
 fn processor_priority(board: &[u32], all: &[u32], times: &[u32], i: usize, s: u64) -> u64
-    requires { ⌜ RowInput (now board) (now all) (now times) i (spec.lowest (now board)) ⌝ }
+    requires { ⌜ RowInput (now board) (now all) (now times) (spec.lowest (now board)) × (i < at.tasks (now board)) ⌝ }
     requires { ⌜ s ≡ spec.ownAccesses (now board) (now times) i ⌝ }
     ensures { λ r. ⌜ r ≡ spec.interference (now (board .entry)) (now (times .entry)) i 1 ⌝ }
 {
-    let others = sides(board, all, times, i, lowest(board), 0);
+    let t = time(board, times, i);
+    let others = sides(board, all, times, t, core(board, i), lowest(board), 0);
     others.before + smaller(s, others.after)
 }
 
 // Bus 2.
 fn fifo(board: &[u32], all: &[u32], times: &[u32], i: usize) -> u64
-    requires { ⌜ RowInput (now board) (now all) (now times) i (spec.lowest (now board)) ⌝ }
+    requires { ⌜ RowInput (now board) (now all) (now times) (spec.lowest (now board)) × (i < at.tasks (now board)) ⌝ }
     ensures { λ r. ⌜ r ≡ spec.interference (now (board .entry)) (now (times .entry)) i 2 ⌝ }
 {
-    let others = sides(board, all, times, i, lowest(board), 0);
+    let t = time(board, times, i);
+    let others = sides(board, all, times, t, core(board, i), lowest(board), 0);
     others.before + others.after
 }
 
 // Bus 3.
 fn round_robin(board: &[u32], all: &[u32], times: &[u32], i: usize, s: u64) -> u64
-    requires { ⌜ RowInput (now board) (now all) (now times) i (spec.lowest (now board)) × (3 ≤ at.bus (now board)) ⌝ }
+    requires { ⌜ RowInput (now board) (now all) (now times) (spec.lowest (now board)) × (i < at.tasks (now board)) × (3 ≤ at.bus (now board)) ⌝ }
     requires { ⌜ s ≡ spec.ownAccesses (now board) (now times) i ⌝ }
     ensures { λ r. ⌜ r ≡ spec.interference (now (board .entry)) (now (times .entry)) i 3 ⌝ }
 {
     let v = wide(slots_each(board));
-    let others = by_core(board, all, times, i, lowest(board));
+    let t = time(board, times, i);
+    let others = by_core(board, all, times, t, core(board, i), lowest(board));
     sum_capped(others, index(cores(board)), v * s)
 }
 
@@ -78,7 +85,7 @@ fn tdma(board: &[u32], times: &[u32], i: usize, s: u64) -> u64
 
 // The interference of task i, with s the accesses of its own core.
 pub fn interference(board: &[u32], own: &[u32], all: &[u32], times: &[u32], i: usize, s: u64) -> u64
-    requires { ⌜ RowInput (now board) (now own) (now times) i i × RowInput (now board) (now all) (now times) i (spec.lowest (now board)) ⌝ }
+    requires { ⌜ RowInput (now board) (now own) (now times) i × RowInput (now board) (now all) (now times) (spec.lowest (now board)) ⌝ }
     requires { ⌜ s ≡ spec.ownAccesses (now board) (now times) i ⌝ }
     ensures { λ r. ⌜ r ≡ spec.interference (now (board .entry)) (now (times .entry)) i (at.bus (now (board .entry))) ⌝ }
 {

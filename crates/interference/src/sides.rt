@@ -7,36 +7,39 @@ ghost use lib.Dec.{ltb};
 ghost use Rattle.folds.specs.Folds.{when};
 ghost use Rattle.board.specs.Layout as at;
 ghost use Rattle.sums.specs.Sums.{carryIn};
-ghost use Rattle.sums.specs.Limits.{mostAccesses};
+ghost use Rattle.sums.specs.Limits.{latestTime, mostAccesses};
 ghost use Rattle.sums.specs.Inputs.{RowInput};
 ghost use Rattle.interference.specs.Terms.{carriedBy};
 
-// Accesses from the cores before that of a task, and from the cores after it.
+// Accesses from the cores before one core, and from the cores after it.
 pub struct SideSums {
     pub before: u64,
     pub after: u64,
 }
 
-// The sums with W(j, k) added on the side of task k, and as they are if it is on the core of task i.
+// The sums with W(j, k) within t cycles added on the side of task k, and as they are if it is on core x.
 fn with_task(
     sums: SideSums,
     board: &[u32],
     row: &[u32],
     times: &[u32],
-    i: usize,
+    t: u64,
+    x: u32,
     j: usize,
     k: usize,
 ) -> SideSums
-    requires { ⌜ RowInput (now board) (now row) (now times) i j × (k < at.tasks (now board)) × (sums .before ≤ mostAccesses) × (sums .after ≤ mostAccesses) ⌝ }
-    ensures { λ r. ⌜ r .before ≡ sums .before + when (ltb (at.core (now (board .entry)) k) (at.core (now (board .entry)) i)) (carryIn (now (board .entry)) (now (times .entry)) i j k) ⌝ }
-    ensures { λ r. ⌜ r .after ≡ sums .after + when (ltb (at.core (now (board .entry)) i) (at.core (now (board .entry)) k)) (carryIn (now (board .entry)) (now (times .entry)) i j k) ⌝ }
+    requires { ⌜ RowInput (now board) (now row) (now times) j × (t ≤ latestTime) × (k < at.tasks (now board)) ⌝ }
+    requires { ⌜ (sums .before ≤ mostAccesses) × (sums .after ≤ mostAccesses) ⌝ }
+    ensures { λ r. ⌜ r .before ≡ sums .before
+        + when (ltb (at.core (now (board .entry)) k) x) (carryIn (now (board .entry)) (now (times .entry)) t j k) ⌝ }
+    ensures { λ r. ⌜ r .after ≡ sums .after
+        + when (ltb x (at.core (now (board .entry)) k)) (carryIn (now (board .entry)) (now (times .entry)) t j k) ⌝ }
 {
     let y = core(board, k);
-    let x = core(board, i);
     if y == x {
         return sums;
     }
-    let w = carry_in(board, row, times, i, j, k);
+    let w = carry_in(board, row, times, t, j, k);
     if y < x {
         SideSums {
             before: sums.before + w,
@@ -50,11 +53,21 @@ fn with_task(
     }
 }
 
-// The sums of W(j, k) over the tasks from a up to j on the cores before that of task i, and on the cores after it.
-pub fn sides(board: &[u32], row: &[u32], times: &[u32], i: usize, j: usize, a: usize) -> SideSums
-    requires { ⌜ RowInput (now board) (now row) (now times) i j × (a ≤ j + 1) ⌝ }
-    ensures { λ r. ⌜ (r .before ≡ carriedBy (now (board .entry)) (now (times .entry)) i (λ y. ltb y (at.core (now (board .entry)) i)) j a) × (r .before ≤ mostAccesses) ⌝ }
-    ensures { λ r. ⌜ (r .after ≡ carriedBy (now (board .entry)) (now (times .entry)) i (λ y. ltb (at.core (now (board .entry)) i) y) j a) × (r .after ≤ mostAccesses) ⌝ }
+// The sums of W(j, k) within t cycles, over the tasks from a up to j on the cores before core x, and on the cores after it.
+pub fn sides(
+    board: &[u32],
+    row: &[u32],
+    times: &[u32],
+    t: u64,
+    x: u32,
+    j: usize,
+    a: usize,
+) -> SideSums
+    requires { ⌜ RowInput (now board) (now row) (now times) j × (t ≤ latestTime) × (a ≤ j + 1) ⌝ }
+    ensures { λ r. ⌜ (r .before ≡ carriedBy (now (board .entry)) (now (times .entry)) t (λ y. ltb y x) j a)
+        × (r .before ≤ mostAccesses) ⌝ }
+    ensures { λ r. ⌜ (r .after ≡ carriedBy (now (board .entry)) (now (times .entry)) t (λ y. ltb x y) j a)
+        × (r .after ≤ mostAccesses) ⌝ }
 {
     let mut sums = SideSums {
         before: 0,
@@ -62,7 +75,7 @@ pub fn sides(board: &[u32], row: &[u32], times: &[u32], i: usize, j: usize, a: u
     };
     let mut k = a;
     while k <= j {
-        sums = with_task(sums, board, row, times, i, j, k);
+        sums = with_task(sums, board, row, times, t, x, j, k);
         k += 1;
     }
     sums

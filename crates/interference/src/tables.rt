@@ -8,33 +8,33 @@ ghost use Prim.Native.Nat.{ℕ, _+_, _<_, _≤_, min};
 ghost use lib.ListN.{getD};
 ghost use Rattle.folds.specs.Folds.{sumTo};
 ghost use Rattle.board.specs.Layout as at;
-ghost use Rattle.sums.specs.Limits.{mostAccesses};
+ghost use Rattle.sums.specs.Limits.{latestTime, mostAccesses};
 ghost use Rattle.sums.specs.Inputs.{Holds, RowInput};
 ghost use Rattle.interference.specs.Terms.{carriedOff, carriedFrom};
 
-// W(j, k), and 0 if task k is on the core of task i.
-fn carry_off(board: &[u32], row: &[u32], times: &[u32], i: usize, j: usize, k: usize) -> u64
-    requires { ⌜ RowInput (now board) (now row) (now times) i j × (k < at.tasks (now board)) ⌝ }
-    ensures { λ r. ⌜ r ≡ carriedOff (now (board .entry)) (now (times .entry)) i j k ⌝ }
+// W(j, k) within t cycles, and 0 if task k is on core x.
+fn carry_off(board: &[u32], row: &[u32], times: &[u32], t: u64, x: u32, j: usize, k: usize) -> u64
+    requires { ⌜ RowInput (now board) (now row) (now times) j × (t ≤ latestTime) × (k < at.tasks (now board)) ⌝ }
+    ensures { λ r. ⌜ r ≡ carriedOff (now (board .entry)) (now (times .entry)) t x j k ⌝ }
 {
-    if core(board, k) == core(board, i) {
+    if core(board, k) == x {
         0
     } else {
-        carry_in(board, row, times, i, j, k)
+        carry_in(board, row, times, t, j, k)
     }
 }
 
-// The sums of W(j, k) over the tasks up to j off the core of task i, that of core y at y - 1.
-pub fn by_core(board: &[u32], row: &[u32], times: &[u32], i: usize, j: usize) -> [u64; 8]
-    requires { ⌜ RowInput (now board) (now row) (now times) i j ⌝ }
-    ensures { λ r. ⌜ Holds 8 (λ y. carriedFrom (now (board .entry)) (now (times .entry)) i j (y + 1)) r ⌝ }
+// The sums of W(j, k) within t cycles over the tasks up to j off core x, that of core y at y - 1.
+pub fn by_core(board: &[u32], row: &[u32], times: &[u32], t: u64, x: u32, j: usize) -> [u64; 8]
+    requires { ⌜ RowInput (now board) (now row) (now times) j × (t ≤ latestTime) ⌝ }
+    ensures { λ r. ⌜ Holds 8 (λ y. carriedFrom (now (board .entry)) (now (times .entry)) t x j (y + 1)) r ⌝ }
 {
     let mut table = [0u64; 8];
     let mut k: usize = 0;
     while k <= j {
         let at = index(core(board, k)) - 1;
         let sum = table[at];
-        table[at] = sum + carry_off(board, row, times, i, j, k);
+        table[at] = sum + carry_off(board, row, times, t, x, j, k);
         k += 1;
     }
     table

@@ -3,13 +3,14 @@
 use Prim.Native.Nat.{ℕ, zero, suc, _+_, _-_, _*_, _/_, _^_, _≤_, _<_, min}
 use mathlib.Core.Bool.{Bool, not}
 use mathlib.Core.List.{List}
+use mathlib.Core.Logic.{⊎-elim}
 use mathlib.Core.Path.{_≡_, ap}
 use native.Mathlib.Nat.{le-trans, le-refl, mul-div-cancel, mul-le-mul}
 use native.Mathlib.Omega.{arith}
 use lib.Dec.{eqb, ltb}
 use lib.ListN.{getD}
 use Rattle.folds.specs.Folds.{ceilDiv, sumTo, sumWhere}
-use Rattle.folds.proofs.Numbers.{ceilDiv-self}
+use Rattle.folds.proofs.Numbers.{le-or-lt, ceilDiv-self}
 use Rattle.folds.proofs.Folds.{sumWhere-bound}
 use Rattle.board.specs.Layout.{cores, tasks, bus, slotsEach, slots, accessCycles, refresh, refreshInterval, refreshRows, refreshCycles, core, period, deadline}
 use Rattle.board.specs.Sound.{Sound}
@@ -18,7 +19,7 @@ use Rattle.figures.proofs.Overhead.{γ-bound}
 use Rattle.figures.proofs.Bounds.{taskPD-bound, taskMD-bound}
 use Rattle.sums.specs.Sums.{lowest, bound, releases, memoryDemand, overCores, window, ownAccesses, carryIn, coreAccesses, interference, busAccesses, refreshes, higherWork, taskSum}
 use Rattle.sums.specs.Limits.{latestTime, mostWork, mostDemand, mostReleases, longestWindow, mostCarryIn, mostOwnAccesses, mostHigherWork, mostAccesses, mostInterference, mostBusAccesses}
-use Rattle.sums.specs.Inputs.{RowInput, releaseCost}
+use Rattle.sums.specs.Inputs.{Times, RowInput, releaseCost}
 use Rattle.sums.proofs.Rising.{carry-mono}
 use Rattle.sums.proofs.Printed.{taskSum-printed}
 
@@ -35,138 +36,125 @@ pub work-bound : (b : List ℕ) → Sound b → (k : ℕ) → k < tasks b → ta
 work-bound b s k h = omega (arith, taskPD-bound b s k h)
 
 -- D + 1
-pub time-bound : (b R : List ℕ) → Sound b → ((k : ℕ) → k < tasks b → getD R k 0 ≤ bound b k + 1) → (k : ℕ) → k < tasks b → getD R k 0 ≤ latestTime
-time-bound b R s short k h = omega (arith, short k h, s .deadline k h .1, s .period k h .1)
+pub time-bound : (b R : List ℕ) → Sound b → Times b R → (k : ℕ) → k < tasks b → getD R k 0 ≤ latestTime
+time-bound b R s times k h = omega (arith, times .short k h, s .deadline k h .1, s .period k h .1)
 
-module _ (b R : List ℕ) (s : Sound b) (short : (k : ℕ) → k < tasks b → getD R k 0 ≤ bound b k + 1) (i : ℕ) (task : i < tasks b) where
-  abbrev late : (k : ℕ) → k < tasks b → getD R k 0 ≤ latestTime
-  late k h = time-bound b R s short k h
+pub slots-bound : (b : List ℕ) → Sound b → slotsEach b ≤ 8
+slots-bound b s = ⊎-elim (λ (h : 3 ≤ bus b). s .slots h .1) (λ (h : bus b < 3). omega (arith, s .noSlots h)) (le-or-lt 3 (bus b))
 
-  releases-bound : (k : ℕ) → releases b i k (getD R i 0) ≤ mostReleases
-  releases-bound k = le-trans (ceilDiv-self (getD R i 0) (period b k)) (late i task)
+rows-bound : (b : List ℕ) → Sound b → refreshRows b ≤ 65535
+rows-bound b s = ⊎-elim (λ (h : 1 ≤ refresh b). s .rows h .1) (λ (h : refresh b < 1). omega (arith, s .noRefresh h .1)) (le-or-lt 1 (refresh b))
 
-  ownAccesses-bound : ownAccesses b R i ≤ mostOwnAccesses
-  unfolding ownAccesses
-  ownAccesses-bound =
-      where-bound _ 64 (mostReleases * mostDemand) (λ k. eqb (core b k) (core b i)) _ (omega (arith, s .tasks .1))
-      (λ k h. mul-le-mul (releases-bound k) (demand-bound b s i k (omega arith)))
+module _ (b R : List ℕ) (s : Sound b) (times : Times b R) where
+  -- ---- within t cycles
 
-  -- W rises with its window, which is at most `longestWindow` periods
-  carryIn-bound : (j k : ℕ) → k < tasks b → carryIn b R i j k ≤ mostCarryIn
-  unfolding carryIn
-  carryIn-bound j k h =
-      let m = memoryDemand b j k in
-      let T = period b k in
-      let most : longestWindow * T / T ≡ longestWindow = mul-div-cancel longestWindow (s .period k h .0) in
-      omega (
-        arith,
-        carry-mono m T (accessCycles b) (window b R i j k) (longestWindow * T) (omega (arith, late i task, late k h, s .period k h .0)),
-        ap (λ (q : ℕ). m * q) most,
-        demand-bound b s j k h,
-      )
+  module _ (t : ℕ) (early : t ≤ latestTime) where
+    -- W rises with its window, which is at most `longestWindow` periods
+    pub carryIn-bound : (j k : ℕ) → k < tasks b → carryIn b R t j k ≤ mostCarryIn
+    unfolding carryIn
+    carryIn-bound j k h =
+        let m = memoryDemand b j k in
+        let T = period b k in
+        let most : longestWindow * T / T ≡ longestWindow = mul-div-cancel longestWindow (s .period k h .0) in
+        omega (
+          arith,
+          carry-mono m T (accessCycles b) (window b R t j k) (longestWindow * T) (omega (arith, time-bound b R s times k h, s .period k h .0)),
+          ap (λ (q : ℕ). m * q) most,
+          demand-bound b s j k h,
+        )
 
-  coreAccesses-bound : (j y : ℕ) → j < tasks b → coreAccesses b R i j y ≤ mostAccesses
-  unfolding coreAccesses
-  coreAccesses-bound j y h =
-      where-bound (j + 1) 64 mostCarryIn (λ k. eqb (core b k) y) _ (omega (arith, s .tasks .1)) (λ k l. carryIn-bound j k (omega arith))
+    pub coreAccesses-bound : (j y : ℕ) → j < tasks b → coreAccesses b R t j y ≤ mostAccesses
+    unfolding coreAccesses
+    coreAccesses-bound j y h =
+        where-bound (j + 1) 64 mostCarryIn (λ k. eqb (core b k) y) _ (omega (arith, s .tasks .1)) (λ k l. carryIn-bound j k (omega arith))
 
   -- a sum over cores of what is at most A's bound
-  overCores-bound : (test : ℕ → Bool) (f : ℕ → ℕ) → ((y : ℕ) → f y ≤ mostAccesses)
-      → overCores b test f ≤ 8 * mostAccesses
-  overCores-bound test f all =
-      where-bound (cores b) 8 mostAccesses (λ y. test (y + 1)) _ (s .cores .1) (λ y h. all (y + 1))
+  overCores-bound : (test : ℕ → Bool) (f : ℕ → ℕ) → ((y : ℕ) → f y ≤ mostAccesses) → overCores b test f ≤ 8 * mostAccesses
+  overCores-bound test f all = where-bound (cores b) 8 mostAccesses (λ y. test (y + 1)) _ (s .cores .1) (λ y h. all (y + 1))
 
-  everyone-bound : (y : ℕ) → coreAccesses b R i (lowest b) y ≤ mostAccesses
-  everyone-bound y = coreAccesses-bound (lowest b) y (omega arith)
+  -- ---- of task i
 
-  slots-bound : slotsEach b ≤ 8
-  slots-bound = go (bus b) (s .slots) (s .noSlots)
-    where
-      go : (c : ℕ) → (3 ≤ c → (1 ≤ slotsEach b) × (slotsEach b ≤ 8)) → (c < 3 → slotsEach b ≡ 0) → slotsEach b ≤ 8
-      go zero some none = omega (arith, none (omega arith))
-      go (suc zero) some none = omega (arith, none (omega arith))
-      go (suc (suc zero)) some none = omega (arith, none (omega arith))
-      go (suc (suc (suc c))) some none = some (omega arith) .1
+  module _ (i : ℕ) (task : i < tasks b) where
+    late : getD R i 0 ≤ latestTime
+    late = time-bound b R s times i task
 
-  interference-bound : (c : ℕ) → interference b R i c ≤ mostInterference
-  unfolding interference
-  interference-bound zero =
-      omega (
-        arith,
-        ownAccesses-bound,
-        overCores-bound (λ y. not (eqb y (core b i))) (λ y. coreAccesses b R i i y) (λ y. coreAccesses-bound i y task),
-      )
-  interference-bound (suc zero) =
-      omega (
-        arith,
-        ownAccesses-bound,
-        overCores-bound (λ y. ltb y (core b i)) (λ y. coreAccesses b R i (lowest b) y) everyone-bound,
-      )
-  interference-bound (suc (suc zero)) =
-      omega (arith, overCores-bound (λ y. not (eqb y (core b i))) (λ y. coreAccesses b R i (lowest b) y) everyone-bound)
-  interference-bound (suc (suc (suc zero))) =
-      omega (
-        arith,
-        overCores-bound (λ y. not (eqb y (core b i))) (λ y. min (coreAccesses b R i (lowest b) y) (slots b y * ownAccesses b R i))
-            (λ y. omega (arith, everyone-bound y)),
-      )
-  interference-bound (suc (suc (suc (suc c)))) =
-      omega (
-        arith,
-        mul-le-mul {n₁ = (cores b - 1) * slotsEach b} {m₁ = ownAccesses b R i} {n₂ = 7 * 8} {m₂ = mostOwnAccesses}
-            (mul-le-mul {n₁ = cores b - 1} {m₁ = slotsEach b} {n₂ = 7} {m₂ = 8} (omega (arith, s .cores .1)) slots-bound) ownAccesses-bound,
-      )
+    pub releases-bound : (k : ℕ) → releases b i k (getD R i 0) ≤ mostReleases
+    releases-bound k = le-trans (ceilDiv-self (getD R i 0) (period b k)) late
 
-  pub busAccesses-bound : busAccesses b R i ≤ mostBusAccesses
-  unfolding busAccesses
-  busAccesses-bound = omega (arith, ownAccesses-bound, interference-bound (bus b))
+    pub ownAccesses-bound : ownAccesses b R i ≤ mostOwnAccesses
+    unfolding ownAccesses
+    ownAccesses-bound =
+        where-bound _ 64 (mostReleases * mostDemand) (λ k. eqb (core b k) (core b i)) _ (omega (arith, s .tasks .1))
+        (λ k h. mul-le-mul (releases-bound k) (demand-bound b s i k (omega arith)))
 
-  rows-bound : refreshRows b ≤ 65535
-  rows-bound = go (refresh b) (s .rows) (s .noRefresh)
-    where
-      go : (c : ℕ) → (1 ≤ c → (1 ≤ refreshRows b) × (refreshRows b ≤ 65535))
-          → (c < 1 → (refreshInterval b ≡ 0) × (refreshRows b ≡ 0) × (refreshCycles b ≡ 0)) → refreshRows b ≤ 65535
-      go zero some none = omega (arith, none (omega arith) .1)
-      go (suc c) some none = some (omega arith) .1
+    everyone-bound : (y : ℕ) → coreAccesses b R (getD R i 0) (lowest b) y ≤ mostAccesses
+    everyone-bound y = coreAccesses-bound (getD R i 0) late (lowest b) y (omega arith)
 
-  pub refreshes-bound : (c : ℕ) → refreshes b R i c ≤ mostBusAccesses
-  unfolding refreshes
-  refreshes-bound zero = omega arith
-  refreshes-bound (suc zero) =
-      omega (
-        arith,
-        mul-le-mul {n₁ = ceilDiv (getD R i 0) (refreshInterval b)} {m₁ = refreshRows b} {n₂ = latestTime} {m₂ = 65535}
-            (le-trans (ceilDiv-self (getD R i 0) (refreshInterval b)) (late i task)) rows-bound,
-      )
-  refreshes-bound (suc (suc c)) = omega (arith, busAccesses-bound)
+    interference-bound : (c : ℕ) → interference b R i c ≤ mostInterference
+    unfolding interference
+    interference-bound zero =
+        omega (
+          arith,
+          ownAccesses-bound,
+          overCores-bound (λ y. not (eqb y (core b i))) (λ y. coreAccesses b R (getD R i 0) i y) (λ y. coreAccesses-bound (getD R i 0) late i y task),
+        )
+    interference-bound (suc zero) =
+        omega (
+          arith,
+          ownAccesses-bound,
+          overCores-bound (λ y. ltb y (core b i)) (λ y. coreAccesses b R (getD R i 0) (lowest b) y) everyone-bound,
+        )
+    interference-bound (suc (suc zero)) =
+        omega (arith, overCores-bound (λ y. not (eqb y (core b i))) (λ y. coreAccesses b R (getD R i 0) (lowest b) y) everyone-bound)
+    interference-bound (suc (suc (suc zero))) =
+        omega (
+          arith,
+          overCores-bound (λ y. not (eqb y (core b i))) (λ y. min (coreAccesses b R (getD R i 0) (lowest b) y) (slots b y * ownAccesses b R i))
+              (λ y. omega (arith, everyone-bound y)),
+        )
+    interference-bound (suc (suc (suc (suc c)))) =
+        omega (
+          arith,
+          mul-le-mul {n₁ = (cores b - 1) * slotsEach b} {m₁ = ownAccesses b R i} {n₂ = 7 * 8} {m₂ = mostOwnAccesses}
+              (mul-le-mul {n₁ = cores b - 1} {m₁ = slotsEach b} {n₂ = 7} {m₂ = 8} (omega (arith, s .cores .1)) (slots-bound b s)) ownAccesses-bound,
+        )
 
-  higherWork-bound : higherWork b R i ≤ mostHigherWork
-  unfolding higherWork
-  higherWork-bound =
-      where-bound i 64 (mostReleases * mostWork) (λ k. eqb (core b k) (core b i)) _ (omega (arith, s .tasks .1))
-      (λ k h. mul-le-mul (releases-bound k) (work-bound b s k (omega arith)))
+    pub busAccesses-bound : busAccesses b R i ≤ mostBusAccesses
+    unfolding busAccesses
+    busAccesses-bound = omega (arith, ownAccesses-bound, interference-bound (bus b))
 
-  pub taskSum-bound : taskSum b R i < 2 ^ 64
-  taskSum-bound =
-      omega (
-        arith,
-        taskSum-printed b R i,
-        work-bound b s i task,
-        higherWork-bound,
-        mul-le-mul {n₁ = busAccesses b R i} {m₁ = accessCycles b} {n₂ = mostBusAccesses} {m₂ = 255} busAccesses-bound (s .access .1),
-        mul-le-mul {n₁ = refreshes b R i (refresh b)} {m₁ = refreshCycles b} {n₂ = mostBusAccesses} {m₂ = 255} (refreshes-bound (refresh b)) (s .refreshCycles),
-      )
+    pub refreshes-bound : (c : ℕ) → refreshes b R i c ≤ mostBusAccesses
+    unfolding refreshes
+    refreshes-bound zero = omega arith
+    refreshes-bound (suc zero) =
+        omega (
+          arith,
+          mul-le-mul {n₁ = ceilDiv (getD R i 0) (refreshInterval b)} {m₁ = refreshRows b} {n₂ = latestTime} {m₂ = 65535}
+              (le-trans (ceilDiv-self (getD R i 0) (refreshInterval b)) late) (rows-bound b s),
+        )
+    refreshes-bound (suc (suc c)) = omega (arith, busAccesses-bound)
+
+    higherWork-bound : higherWork b R i ≤ mostHigherWork
+    unfolding higherWork
+    higherWork-bound =
+        where-bound i 64 (mostReleases * mostWork) (λ k. eqb (core b k) (core b i)) _ (omega (arith, s .tasks .1))
+        (λ k h. mul-le-mul (releases-bound k) (work-bound b s k (omega arith)))
+
+    pub taskSum-bound : taskSum b R i < 2 ^ 64
+    taskSum-bound =
+        omega (
+          arith,
+          taskSum-printed b R i,
+          work-bound b s i task,
+          higherWork-bound,
+          mul-le-mul {n₁ = busAccesses b R i} {m₁ = accessCycles b} {n₂ = mostBusAccesses} {m₂ = 255} busAccesses-bound (s .access .1),
+          mul-le-mul {n₁ = refreshes b R i (refresh b)} {m₁ = refreshCycles b} {n₂ = mostBusAccesses} {m₂ = 255} (refreshes-bound (refresh b)) (s .refreshCycles),
+        )
 
 -- ---- what code adds up on the way
 
-module _ (b row R : List ℕ) (i j : ℕ) (h : RowInput b row R i j) where
-  pub releaseCost-bound : (cost : ℕ → ℕ) (m k : ℕ) → ((l : ℕ) → l < tasks b → cost l ≤ m) → k ≤ i → sumTo (releaseCost b R i cost) k ≤ 64 * (mostReleases * m)
-  releaseCost-bound cost m k few le =
-      where-bound k 64 (mostReleases * m) (λ l. eqb (core b l) (core b i)) _ (omega (arith, h .task, h .sound .tasks .1))
-      (λ l less. mul-le-mul (releases-bound b R (h .sound) (h .times .short) i (h .task) l) (few l (omega (arith, h .task))))
-
-  pub carry-bound : (k : ℕ) → k < tasks b → carryIn b R i j k ≤ mostCarryIn
-  carry-bound k l = carryIn-bound b R (h .sound) (h .times .short) i (h .task) j k l
-
-  pub own-bound : ownAccesses b R i ≤ mostOwnAccesses
-  own-bound = ownAccesses-bound b R (h .sound) (h .times .short) i (h .task)
+pub releaseCost-bound : (b row R : List ℕ) (i : ℕ) → RowInput b row R i → (cost : ℕ → ℕ) (m k : ℕ) → ((l : ℕ) → l < tasks b → cost l ≤ m) → k ≤ i
+    → sumTo (releaseCost b R i cost) k ≤ 64 * (mostReleases * m)
+releaseCost-bound b row R i h cost m k few le =
+    where-bound k 64 (mostReleases * m) (λ l. eqb (core b l) (core b i)) _ (omega (arith, h .task, h .sound .tasks .1))
+    (λ l less. mul-le-mul (releases-bound b R (h .sound) (h .times) i (h .task) l) (few l (omega (arith, h .task))))

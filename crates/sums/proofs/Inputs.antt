@@ -7,8 +7,8 @@ use Rattle.sums.specs.Sums.{lowest}
 use Rattle.sums.specs.Inputs.{RowInput, SumInput}
 
 module _ (b pd own all R : List ℕ) (i : ℕ) (h : SumInput b pd own all R i) where
-  pub own-row : RowInput b own R i i
-  own-row = record { sound = h .sound; task = h .task; below = h .task; demands = h .owns; times = h .times }
+  pub own-row : RowInput b own R i
+  own-row = record { sound = h .sound; task = h .task; demands = h .owns; times = h .times }
 
-  pub all-row : RowInput b all R i (lowest b)
-  all-row = record { sound = h .sound; task = h .task; below = omega (arith, h .task); demands = h .alls; times = h .times }
+  pub all-row : RowInput b all R (lowest b)
+  all-row = record { sound = h .sound; task = omega (arith, h .task); demands = h .alls; times = h .times }

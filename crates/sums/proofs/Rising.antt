@@ -69,11 +69,15 @@ heavier-same b = record {
   demands = λ j k h l. refl;
 }
 
--- the times of the tasks off the core of task i rise
+-- the times of the tasks on core y rise
+abbrev RiseOn : List ℕ → List ℕ → List ℕ → ℕ → Type 0
+RiseOn b R R' y = (k : ℕ) → k < tasks b → core b k ≡ y → getD R k 0 ≤ getD R' k 0
+
+-- those of the tasks off the core of task i
 abbrev OthersRise : List ℕ → List ℕ → List ℕ → ℕ → Type 0
 OthersRise b R R' i = (k : ℕ) → k < tasks b → (core b k ≡ core b i → ⊥) → getD R k 0 ≤ getD R' k 0
 
-module _ (b b' R R' : List ℕ) (i : ℕ) (heavier : Heavier b b') (task : i < tasks b) (own : getD R i 0 ≤ getD R' i 0) where
+module _ (b b' R R' : List ℕ) (heavier : Heavier b b') where
   same-cores : cores b ≡ cores b'
   same-cores = heavier .header 0 (omega arith)
 
@@ -86,156 +90,172 @@ module _ (b b' R R' : List ℕ) (i : ℕ) (heavier : Heavier b b') (task : i < t
   same-access : accessCycles b ≡ accessCycles b'
   same-access = heavier .header 7 (omega arith)
 
-  same-core : core b i ≡ core b' i
-  same-core = heavier .cores i task
-
   -- a test that reads the core of task k
   on-core : (k : ℕ) {x y : ℕ} → k < tasks b → x ≡ y → eqb (core b k) x ≡ true → eqb (core b' k) y ≡ true
-  on-core k h e t = sym (ap₂ eqb (heavier .cores k h) e) ∙ t
+  on-core k h e on = sym (ap₂ eqb (heavier .cores k h) e) ∙ on
 
-  releases-mono : (k : ℕ) → k < tasks b → releases b i k (getD R i 0) ≤ releases b' i k (getD R' i 0)
-  releases-mono k h = ceilDiv-rise (heavier .periods k h) (getD R i 0) (getD R' i 0) own
+  -- ---- W, A and L, within t cycles
 
-  ownAccesses-mono : ownAccesses b R i ≤ ownAccesses b' R' i
-  unfolding ownAccesses
-  ownAccesses-mono =
-      sumWhere-rise (λ k. eqb (core b k) (core b i)) (λ k. eqb (core b' k) (core b' i)) _ _ _ _ (le-refl (i + 1))
-      (λ k h e. let l : k < tasks b = omega arith in
-      (on-core k l same-core e, mul-le-mul (releases-mono k l) (le-of-eq (heavier .demands i k task l))))
-
-  -- another core's accesses
-  module _ (others : OthersRise b R R' i) where
-    carryIn-mono : (j k : ℕ) → j < tasks b → k < tasks b → (core b k ≡ core b i → ⊥) → carryIn b R i j k ≤ carryIn b' R' i j k
+  module _ (t t' : ℕ) (longer : t ≤ t') where
+    carryIn-rise : (j k : ℕ) → j < tasks b → k < tasks b → getD R k 0 ≤ getD R' k 0 → carryIn b R t j k ≤ carryIn b' R' t' j k
     unfolding carryIn
-    carryIn-mono j k l h off =
+    carryIn-rise j k l h later =
         let same = heavier .demands j k l h in
-        let u = window b R i j k in
-        let v = window b' R' i j k in
-        let rise : u ≤ v = omega (arith, product-cong same same-access, others k h off) in
+        let u = window b R t j k in
+        let v = window b' R' t' j k in
+        let rise : u ≤ v = omega (arith, product-cong same same-access) in
         subst₂
         (λ (m d : ℕ).
         memoryDemand b j k * (u / period b k) + min (memoryDemand b j k) (ceilDiv (u % period b k) (accessCycles b))
         ≤ m * (v / period b' k) + min m (ceilDiv (v % period b' k) d)) same same-access
         (carry-rise (memoryDemand b j k) (accessCycles b) (heavier .periods k h) u v rise)
 
-    coreAccesses-mono : (j y : ℕ) → j < tasks b → (y ≡ core b i → ⊥) → coreAccesses b R i j y ≤ coreAccesses b' R' i j y
+    coreAccesses-rise : (j y : ℕ) → j < tasks b → RiseOn b R R' y → coreAccesses b R t j y ≤ coreAccesses b' R' t' j y
     unfolding coreAccesses
-    coreAccesses-mono j y h off =
+    coreAccesses-rise j y h rise =
         sumWhere-rise (λ k. eqb (core b k) y) (λ k. eqb (core b' k) y) _ _ _ _ (le-refl (j + 1))
         (λ k l e. let here : k < tasks b = omega arith in
-        (on-core k here refl e, carryIn-mono j k h here (λ same. off (sym (eqb-true (core b k) y e) ∙ same))))
+        (on-core k here refl e, carryIn-rise j k h here (rise k here (eqb-true (core b k) y e))))
 
-    -- A(n, y)
-    everyone-mono : (y : ℕ) → (y ≡ core b i → ⊥) → coreAccesses b R i (lowest b) y ≤ coreAccesses b' R' i (lowest b') y
-    everyone-mono y off =
-        subst (λ (n : ℕ). coreAccesses b R i (lowest b) y ≤ coreAccesses b' R' i (n - 1) y) same-tasks
-        (coreAccesses-mono (lowest b) y (omega arith) off)
-
-    lowerAccesses-mono : (y : ℕ) → (y ≡ core b i → ⊥) → lowerAccesses b R i y ≤ lowerAccesses b' R' i y
+    lowerAccesses-rise : (i y : ℕ) → RiseOn b R R' y → lowerAccesses b R t i y ≤ lowerAccesses b' R' t' i y
     unfolding lowerAccesses
-    lowerAccesses-mono y off =
+    lowerAccesses-rise i y rise =
         sumWhere-rise (λ k. ltb i k && eqb (core b k) y) (λ k. ltb i k && eqb (core b' k) y) _ _ _ _ (le-of-eq same-tasks)
         (λ k l e.
         let on = and-both (ltb i k) (eqb (core b k) y) e in (
           sym (ap (λ (x : ℕ). ltb i k && eqb x y) (heavier .cores k l)) ∙ e,
-          subst (λ (n : ℕ). carryIn b R i (lowest b) k ≤ carryIn b' R' i (n - 1) k) same-tasks
-              (carryIn-mono (lowest b) k (omega arith) l (λ same. off (sym (eqb-true (core b k) y (on .1)) ∙ same))),
+          subst (λ (n : ℕ). carryIn b R t (lowest b) k ≤ carryIn b' R' t' (n - 1) k) same-tasks
+              (carryIn-rise (lowest b) k (omega arith) l (rise k l (eqb-true (core b k) y (on .1)))),
         ))
 
-  overCores-mono : (test : ℕ → ℕ → Bool) → Leaves (core b i) (test (core b i)) → (f g : ℕ → ℕ) → ((y : ℕ) → (y ≡ core b i → ⊥) → f y ≤ g y)
-      → overCores b (test (core b i)) f ≤ overCores b' (test (core b' i)) g
-  overCores-mono test off f g all =
-      sumWhere-rise (λ y. test (core b i) (y + 1)) (λ y. test (core b' i) (y + 1)) _ _ _ _ (le-of-eq same-cores)
-      (λ y h e. (sym (ap (λ (x : ℕ). test x (y + 1)) same-core) ∙ e, all (y + 1) (off (y + 1) e)))
+  -- ---- the sum of task i
 
-  interference-mono : (c : ℕ) → (c < 4 → OthersRise b R R' i) → interference b R i c ≤ interference b' R' i c
-  unfolding interference
-  interference-mono zero others =
-      let rise = others (omega arith) in
-      omega (
-        arith,
-        ownAccesses-mono,
-        overCores-mono (λ x y. not (eqb y x)) (not-own (core b i)) (λ y. coreAccesses b R i i y) (λ y. coreAccesses b' R' i i y)
-            (λ y. coreAccesses-mono rise i y task),
-        overCores-mono (λ x y. not (eqb y x)) (not-own (core b i)) (λ y. lowerAccesses b R i y) (λ y. lowerAccesses b' R' i y)
-            (lowerAccesses-mono rise),
-      )
-  interference-mono (suc zero) others =
-      let every = everyone-mono (others (omega arith)) in
-      omega (
-        arith,
-        ownAccesses-mono,
-        overCores-mono (λ x y. ltb y x) (before-own (core b i)) (λ y. coreAccesses b R i (lowest b) y)
-            (λ y. coreAccesses b' R' i (lowest b') y) every,
-        overCores-mono (λ x y. ltb x y) (after-own (core b i)) (λ y. coreAccesses b R i (lowest b) y)
-            (λ y. coreAccesses b' R' i (lowest b') y) every,
-      )
-  interference-mono (suc (suc zero)) others =
-      overCores-mono (λ x y. not (eqb y x)) (not-own (core b i)) (λ y. coreAccesses b R i (lowest b) y)
-      (λ y. coreAccesses b' R' i (lowest b') y) (everyone-mono (others (omega arith)))
-  interference-mono (suc (suc (suc zero))) others =
-      overCores-mono (λ x y. not (eqb y x)) (not-own (core b i))
-      (λ y. min (coreAccesses b R i (lowest b) y) (slots b y * ownAccesses b R i))
-      (λ y. min (coreAccesses b' R' i (lowest b') y) (slots b' y * ownAccesses b' R' i))
-      (λ y off.
-      omega (
-        arith,
-        everyone-mono (others (omega arith)) y off,
-        mul-le-mul {n₁ = slots b y} {m₁ = ownAccesses b R i} {n₂ = slots b' y} {m₂ = ownAccesses b' R' i} (le-of-eq (same-slots y)) ownAccesses-mono,
-      ))
-  interference-mono (suc (suc (suc (suc m)))) others =
-      mul-le-mul (mul-le-mul (le-of-eq (ap (λ (n : ℕ). n - 1) same-cores)) (le-of-eq (same-slots 0))) ownAccesses-mono
+  module _ (i : ℕ) (task : i < tasks b) (own : getD R i 0 ≤ getD R' i 0) where
+    -- t and A(n, y), on either board
+    abbrev t : ℕ
+    t = getD R i 0
 
-  higherWork-mono : higherWork b R i ≤ higherWork b' R' i
-  unfolding higherWork
-  higherWork-mono =
-      sumWhere-rise (λ k. eqb (core b k) (core b i)) (λ k. eqb (core b' k) (core b' i)) _ _ _ _ (le-refl i)
-      (λ k h e. let l : k < tasks b = omega arith in (on-core k l same-core e, mul-le-mul (releases-mono k l) (heavier .work k l)))
+    abbrev t' : ℕ
+    t' = getD R' i 0
 
-  module _ (others : bus b < 4 → OthersRise b R R' i) where
-    -- on the board's own bus
-    byBus-mono : interference b R i (bus b) ≤ interference b' R' i (bus b')
-    byBus-mono =
-        subst (λ (c : ℕ). interference b R i (bus b) ≤ interference b' R' i c) (heavier .header 5 (omega arith)) (interference-mono (bus b) others)
+    abbrev A : ℕ → ℕ
+    A y = coreAccesses b R t (lowest b) y
 
-    busAccesses-mono : busAccesses b R i ≤ busAccesses b' R' i
-    unfolding busAccesses
-    busAccesses-mono = omega (arith, ownAccesses-mono, byBus-mono)
+    abbrev A' : ℕ → ℕ
+    A' y = coreAccesses b' R' t' (lowest b') y
 
-    refreshes-mono : (c : ℕ) → refreshes b R i c ≤ refreshes b' R' i c
-    unfolding refreshes
-    refreshes-mono zero = zero-le
-    refreshes-mono (suc zero) =
-        rw (heavier .header 9 (omega arith), heavier .header 10 (omega arith))
-        (mul-le-mul (ceilDiv-mono (refreshInterval b') (getD R i 0) (getD R' i 0) own) (le-refl (refreshRows b')))
-    refreshes-mono (suc (suc m)) =
-        rw (heavier .header 9 (omega arith), heavier .header 10 (omega arith))
-        (omega (
-          arith,
-          busAccesses-mono,
-          ceilDiv-mono (refreshInterval b') (getD R i 0 * refreshRows b') (getD R' i 0 * refreshRows b') (mul-le-mul own (le-refl (refreshRows b'))),
-        ))
+    same-core : core b i ≡ core b' i
+    same-core = heavier .cores i task
 
-    refreshPart-mono : refreshes b R i (refresh b) * refreshCycles b ≤ refreshes b' R' i (refresh b') * refreshCycles b'
-    refreshPart-mono =
-        mul-le-mul
-        (subst (λ (c : ℕ). refreshes b R i (refresh b) ≤ refreshes b' R' i c) (heavier .header 8 (omega arith)) (refreshes-mono (refresh b)))
-        (le-of-eq (heavier .header 11 (omega arith)))
+    releases-rise : (k : ℕ) → k < tasks b → releases b i k t ≤ releases b' i k t'
+    releases-rise k h = ceilDiv-rise (heavier .periods k h) t t' own
 
-    pub taskSum-rise : taskSum b R i ≤ taskSum b' R' i
-    unfolding taskSum
-    taskSum-rise =
+    ownAccesses-rise : ownAccesses b R i ≤ ownAccesses b' R' i
+    unfolding ownAccesses
+    ownAccesses-rise =
+        sumWhere-rise (λ k. eqb (core b k) (core b i)) (λ k. eqb (core b' k) (core b' i)) _ _ _ _ (le-refl (i + 1))
+        (λ k h e. let l : k < tasks b = omega arith in
+        (on-core k l same-core e, mul-le-mul (releases-rise k l) (le-of-eq (heavier .demands i k task l))))
+
+    -- a core other than that of task i
+    others-on : OthersRise b R R' i → (y : ℕ) → (y ≡ core b i → ⊥) → RiseOn b R R' y
+    others-on others y off k h on = others k h (λ same. off (sym on ∙ same))
+
+    everyone-rise : OthersRise b R R' i → (y : ℕ) → (y ≡ core b i → ⊥) → A y ≤ A' y
+    everyone-rise others y off =
+        subst (λ (n : ℕ). A y ≤ coreAccesses b' R' t' (n - 1) y) same-tasks
+        (coreAccesses-rise t t' own (lowest b) y (omega arith) (others-on others y off))
+
+    overCores-rise : (test : ℕ → ℕ → Bool) → Leaves (core b i) (test (core b i)) → (f g : ℕ → ℕ) → ((y : ℕ) → (y ≡ core b i → ⊥) → f y ≤ g y)
+        → overCores b (test (core b i)) f ≤ overCores b' (test (core b' i)) g
+    overCores-rise test off f g all =
+        sumWhere-rise (λ y. test (core b i) (y + 1)) (λ y. test (core b' i) (y + 1)) _ _ _ _ (le-of-eq same-cores)
+        (λ y h e. (sym (ap (λ (x : ℕ). test x (y + 1)) same-core) ∙ e, all (y + 1) (off (y + 1) e)))
+
+    interference-rise : (c : ℕ) → (c < 4 → OthersRise b R R' i) → interference b R i c ≤ interference b' R' i c
+    unfolding interference
+    interference-rise zero others =
+        let rise = others-on (others (omega arith)) in
         omega (
           arith,
-          heavier .work i task,
-          higherWork-mono,
-          mul-le-mul {n₁ = ownAccesses b R i} {m₁ = accessCycles b} {n₂ = ownAccesses b' R' i} {m₂ = accessCycles b'} ownAccesses-mono (le-of-eq same-access),
-          mul-le-mul {n₁ = interference b R i (bus b)} {m₁ = accessCycles b} {n₂ = interference b' R' i (bus b')} {m₂ = accessCycles b'} byBus-mono (le-of-eq same-access),
-          same-access,
-          refreshPart-mono,
+          ownAccesses-rise,
+          overCores-rise (λ x y. not (eqb y x)) (not-own (core b i)) (λ y. coreAccesses b R t i y) (λ y. coreAccesses b' R' t' i y)
+              (λ y off. coreAccesses-rise t t' own i y task (rise y off)),
+          overCores-rise (λ x y. not (eqb y x)) (not-own (core b i)) (λ y. lowerAccesses b R t i y) (λ y. lowerAccesses b' R' t' i y)
+              (λ y off. lowerAccesses-rise t t' own i y (rise y off)),
         )
+    interference-rise (suc zero) others =
+        let every = everyone-rise (others (omega arith)) in
+        omega (
+          arith,
+          ownAccesses-rise,
+          overCores-rise (λ x y. ltb y x) (before-own (core b i)) A A' every,
+          overCores-rise (λ x y. ltb x y) (after-own (core b i)) A A' every,
+        )
+    interference-rise (suc (suc zero)) others =
+        overCores-rise (λ x y. not (eqb y x)) (not-own (core b i)) A A' (everyone-rise (others (omega arith)))
+    interference-rise (suc (suc (suc zero))) others =
+        overCores-rise (λ x y. not (eqb y x)) (not-own (core b i)) (λ y. min (A y) (slots b y * ownAccesses b R i))
+        (λ y. min (A' y) (slots b' y * ownAccesses b' R' i))
+        (λ y off.
+        omega (
+          arith,
+          everyone-rise (others (omega arith)) y off,
+          mul-le-mul {n₁ = slots b y} {m₁ = ownAccesses b R i} {n₂ = slots b' y} {m₂ = ownAccesses b' R' i} (le-of-eq (same-slots y)) ownAccesses-rise,
+        ))
+    interference-rise (suc (suc (suc (suc m)))) others =
+        mul-le-mul (mul-le-mul (le-of-eq (ap (λ (n : ℕ). n - 1) same-cores)) (le-of-eq (same-slots 0))) ownAccesses-rise
+
+    higherWork-rise : higherWork b R i ≤ higherWork b' R' i
+    unfolding higherWork
+    higherWork-rise =
+        sumWhere-rise (λ k. eqb (core b k) (core b i)) (λ k. eqb (core b' k) (core b' i)) _ _ _ _ (le-refl i)
+        (λ k h e. let l : k < tasks b = omega arith in (on-core k l same-core e, mul-le-mul (releases-rise k l) (heavier .work k l)))
+
+    module _ (others : bus b < 4 → OthersRise b R R' i) where
+      -- on the board's own bus
+      byBus-rise : interference b R i (bus b) ≤ interference b' R' i (bus b')
+      byBus-rise =
+          subst (λ (c : ℕ). interference b R i (bus b) ≤ interference b' R' i c) (heavier .header 5 (omega arith)) (interference-rise (bus b) others)
+
+      busAccesses-rise : busAccesses b R i ≤ busAccesses b' R' i
+      unfolding busAccesses
+      busAccesses-rise = omega (arith, ownAccesses-rise, byBus-rise)
+
+      refreshes-rise : (c : ℕ) → refreshes b R i c ≤ refreshes b' R' i c
+      unfolding refreshes
+      refreshes-rise zero = zero-le
+      refreshes-rise (suc zero) =
+          rw (heavier .header 9 (omega arith), heavier .header 10 (omega arith))
+          (mul-le-mul (ceilDiv-mono (refreshInterval b') t t' own) (le-refl (refreshRows b')))
+      refreshes-rise (suc (suc m)) =
+          rw (heavier .header 9 (omega arith), heavier .header 10 (omega arith))
+          (omega (
+            arith,
+            busAccesses-rise,
+            ceilDiv-mono (refreshInterval b') (t * refreshRows b') (t' * refreshRows b') (mul-le-mul own (le-refl (refreshRows b'))),
+          ))
+
+      refreshPart-rise : refreshes b R i (refresh b) * refreshCycles b ≤ refreshes b' R' i (refresh b') * refreshCycles b'
+      refreshPart-rise =
+          mul-le-mul
+          (subst (λ (c : ℕ). refreshes b R i (refresh b) ≤ refreshes b' R' i c) (heavier .header 8 (omega arith)) (refreshes-rise (refresh b)))
+          (le-of-eq (heavier .header 11 (omega arith)))
+
+      pub taskSum-rise : taskSum b R i ≤ taskSum b' R' i
+      unfolding taskSum
+      taskSum-rise =
+          omega (
+            arith,
+            heavier .work i task,
+            higherWork-rise,
+            mul-le-mul {n₁ = ownAccesses b R i} {m₁ = accessCycles b} {n₂ = ownAccesses b' R' i} {m₂ = accessCycles b'} ownAccesses-rise (le-of-eq same-access),
+            mul-le-mul {n₁ = interference b R i (bus b)} {m₁ = accessCycles b} {n₂ = interference b' R' i (bus b')} {m₂ = accessCycles b'} byBus-rise (le-of-eq same-access),
+            same-access,
+            refreshPart-rise,
+          )
 
 -- on one board
 pub taskSum-mono : (b R R' : List ℕ) (i : ℕ) → i < tasks b → getD R i 0 ≤ getD R' i 0 → (bus b < 4 → OthersRise b R R' i)
     → taskSum b R i ≤ taskSum b R' i
-taskSum-mono b R R' i = taskSum-rise b b R R' i (heavier-same b)
+taskSum-mono b R R' = taskSum-rise b b R R' (heavier-same b)

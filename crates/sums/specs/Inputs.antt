@@ -22,11 +22,10 @@ pub record Times (b R : List ℕ) : Type 0 where
   pub long : tasks b ≤ length R
   pub short : (k : ℕ) → k < tasks b → getD R k 0 ≤ bound b k + 1
 
--- task i at the times R, and the row D'(j, _)
-pub record RowInput (b row R : List ℕ) (i j : ℕ) : Type 0 where
+-- the row D'(j, _) and the times R
+pub record RowInput (b row R : List ℕ) (j : ℕ) : Type 0 where
   pub sound : Sound b
-  pub task : i < tasks b
-  pub below : j < tasks b
+  pub task : j < tasks b
   pub demands : Holds (tasks b) (memoryDemand b j) row
   pub times : Times b R
 

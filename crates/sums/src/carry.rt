@@ -12,7 +12,7 @@ ghost use Rattle.folds.specs.Folds.{ceilDiv};
 ghost use Rattle.board.specs.Layout as at;
 ghost use Rattle.board.specs.Sound.{Between};
 ghost use Rattle.sums.specs.Sums.{carryIn};
-ghost use Rattle.sums.specs.Limits.{longestPeriod, longestWindow, mostDemand};
+ghost use Rattle.sums.specs.Limits.{longestPeriod, latestTime, longestWindow, mostDemand};
 ghost use Rattle.sums.specs.Inputs.{RowInput};
 
 // The whole periods in u cycles.
@@ -47,14 +47,13 @@ fn in_window(demand: u64, d: u64, period: u64, u: u64) -> u64
     }
 }
 
-// W(j, k), for task i and from the row of j.
-pub fn carry_in(board: &[u32], row: &[u32], times: &[u32], i: usize, j: usize, k: usize) -> u64
-    requires { ⌜ RowInput (now board) (now row) (now times) i j × (k < at.tasks (now board)) ⌝ }
-    ensures { λ r. ⌜ r ≡ carryIn (now (board .entry)) (now (times .entry)) i j k ⌝ }
+// W(j, k) within t cycles, from the row of j.
+pub fn carry_in(board: &[u32], row: &[u32], times: &[u32], t: u64, j: usize, k: usize) -> u64
+    requires { ⌜ RowInput (now board) (now row) (now times) j × (t ≤ latestTime) × (k < at.tasks (now board)) ⌝ }
+    ensures { λ r. ⌜ r ≡ carryIn (now (board .entry)) (now (times .entry)) t j k ⌝ }
 {
     let d = wide(access_cycles(board));
     let accesses = demand(board, row, j, k);
-    let t = time(board, times, i);
     let span = t + time(board, times, k);
     let busy = accesses * d;
     in_window(accesses, d, wide(period(board, k)), less(span, busy))

@@ -40,7 +40,7 @@ fn with_task(
     i: usize,
     k: usize,
 ) -> OwnSums
-    requires { ⌜ RowInput (now board) (now own) (now times) i i × Holds (at.tasks (now board)) (taskPD (now board)) (now pd) × (k < at.tasks (now board)) ⌝ }
+    requires { ⌜ RowInput (now board) (now own) (now times) i × Holds (at.tasks (now board)) (taskPD (now board)) (now pd) × (k < at.tasks (now board)) ⌝ }
     requires { ⌜ (sums .accesses ≤ mostOwnAccesses) × (sums .work ≤ mostHigherWork) ⌝ }
     ensures { λ r. ⌜ r .accesses ≡ sums .accesses + releaseCost (now (board .entry)) (now (times .entry)) i (spec.memoryDemand (now (board .entry)) i) k ⌝ }
     ensures { λ r. ⌜ r .work ≡ sums .work + releaseCost (now (board .entry)) (now (times .entry)) i (taskPD (now (board .entry))) k ⌝ }
@@ -60,7 +60,7 @@ fn with_task(
 
 // S, and the work of the tasks above task i on its core.
 pub fn released(board: &[u32], pd: &[u32], own: &[u32], times: &[u32], i: usize) -> OwnSums
-    requires { ⌜ RowInput (now board) (now own) (now times) i i × Holds (at.tasks (now board)) (taskPD (now board)) (now pd) ⌝ }
+    requires { ⌜ RowInput (now board) (now own) (now times) i × Holds (at.tasks (now board)) (taskPD (now board)) (now pd) ⌝ }
     ensures { λ r. ⌜ r .accesses ≡ spec.ownAccesses (now (board .entry)) (now (times .entry)) i ⌝ }
     ensures { λ r. ⌜ r .work ≡ spec.higherWork (now (board .entry)) (now (times .entry)) i ⌝ }
 {

@@ -1,3 +1,5 @@
+-- `interference::task_sum` meets its contract.
+-- Assumes nothing.
 use borrow.Author.Needs.{needs}
 use native.Mathlib.Omega.{arith}
 use lib.Dec.{lit<}
@@ -39,7 +41,7 @@ count-is c = ap₂ (λ (s n : ℕ). s + n + 1) (c .before .released .ensures .0)
 few : (c : tie.After-interference) → count c ≤ mostBusAccesses
 few c =
     let h = start c .pre in
-    le-trans (le-of-eq (count-is c)) (busAccesses-bound _ _ (h .sound) (h .times .short) _ (h .task))
+    le-trans (le-of-eq (count-is c)) (busAccesses-bound _ _ (h .sound) (h .times) _ (h .task))
 
 refreshes-requires : tie.Need-refreshes-requires
 refreshes-requires c κs =
@@ -51,7 +53,7 @@ mul-stall : tie.Need-mul-stall
 mul-stall c =
     let s = start (c .before .before .before .before .before) in
     let h = s .pre in
-    let most = refreshes-bound _ _ (h .sound) (h .times .short) _ (h .task) (refresh (s .args .board .now)) in
+    let most = refreshes-bound _ _ (h .sound) (h .times) _ (h .task) (refresh (s .args .board .now)) in
     product-fits mostBusAccesses 255 (le-trans (le-of-eq (c .refreshes .ensures)) most) (omega arith) (lit< tt)
 
 -- the whole sum, which is below 2^64
@@ -73,7 +75,7 @@ total-is c =
 total-fits : (c : tie.After-work) → total c < 2 ^ 64
 total-fits c =
     let h = start (counted c) .pre in
-    lt-of-le-of-lt (le-of-eq (total-is c)) (taskSum-bound _ _ (h .sound) (h .times .short) _ (h .task))
+    lt-of-le-of-lt (le-of-eq (total-is c)) (taskSum-bound _ _ (h .sound) (h .times) _ (h .task))
 
 pub task-sum-spec : {M : Type 1} → statement M
 task-sum-spec =

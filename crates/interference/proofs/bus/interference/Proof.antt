@@ -1,9 +1,11 @@
+-- `interference::bus::interference` meets its contract.
+-- Assumes nothing.
 use borrow.Author.Needs.{needs}
 use mathlib.Core.Path.{_≡_, sym, _∙_}
 use lib.Dec.{lit≤}
 use native.Mathlib.Nat.{le-trans, le-of-eq}
 use Rattle.interference.proofs.Numbers.{is-four}
-use Rattle.sums.proofs.Bounds.{own-bound}
+use Rattle.sums.proofs.Bounds.{ownAccesses-bound}
 use Rattle.interference.proofs.bus.interference.Statement.{statement}
 use Rattle.interference.proofs.bus.interference.Tie as tie
 
@@ -32,8 +34,9 @@ returns-5 c =
 tdma-requires : tie.Need-tdma-requires
 tdma-requires c κs =
     let s = c .before .before .before .before .before .before in
+    let h = s .pre .0 .0 in
     let code = sym (c .before .bus .ensures .0) ∙ tdma-code c in
-    ((s .pre .0 .0 .sound, rw code (lit≤ tt), le-trans (le-of-eq (s .pre .1)) (own-bound _ _ _ _ _ (s .pre .0 .0))), s .pre .1)
+    ((h .sound, rw code (lit≤ tt), le-trans (le-of-eq (s .pre .1)) (ownAccesses-bound _ _ (h .sound) (h .times) _ (h .task))), s .pre .1)
 
 pub interference-spec : {M : Type 1} → statement M
 interference-spec =

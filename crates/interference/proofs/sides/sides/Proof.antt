@@ -1,3 +1,5 @@
+-- `interference::sides::sides` meets its contract.
+-- Assumes nothing.
 use borrow.Author.Needs.{needs}
 use native.Mathlib.Omega.{arith}
 use mathlib.Core.Bool.{Bool}
@@ -16,35 +18,35 @@ use Rattle.interference.proofs.sides.sides.Statement.{statement}
 use Rattle.interference.proofs.sides.sides.Tie as tie
 
 abbrev Inv-loop : tie.InvT-loop
-Inv-loop board row times i j a sums₀ k₀ sums k =
+Inv-loop board row times t x j a sums₀ k₀ sums k =
     (a ≤ k) × (k ≤ j + 1)
-    × (sums .before ≡ sumTo (carriedIf board times i (λ y. ltb y (core board i)) j a) k)
-    × (sums .after ≡ sumTo (carriedIf board times i (λ y. ltb (core board i) y) j a) k)
+    × (sums .before ≡ sumTo (carriedIf board times t (λ y. ltb y x) j a) k)
+    × (sums .after ≡ sumTo (carriedIf board times t (λ y. ltb x y) j a) k)
 
 abbrev μ-loop : tie.MeasureT-loop
-μ-loop board row times i j a sums₀ k₀ sums k = j + 1 - k
+μ-loop board row times t x j a sums₀ k₀ sums k = j + 1 - k
 
 -- the two tests, and the terms of a test
 abbrev below : tie.Start Inv-loop μ-loop → ℕ → Bool
-below s y = ltb y (core (s .args .board .now) (s .args .i))
+below s y = ltb y (s .args .x)
 
 abbrev beyond : tie.Start Inv-loop μ-loop → ℕ → Bool
-beyond s y = ltb (core (s .args .board .now) (s .args .i)) y
+beyond s y = ltb (s .args .x) y
 
 abbrev terms : tie.Start Inv-loop μ-loop → (ℕ → Bool) → ℕ → ℕ
-terms s test k = carriedIf (s .args .board .now) (s .args .times .now) (s .args .i) test (s .args .j) (s .args .a) k
+terms s test k = carriedIf (s .args .board .now) (s .args .times .now) (s .args .t) test (s .args .j) (s .args .a) k
 
 few : (s : tie.Start Inv-loop μ-loop) (test : ℕ → Bool) (k : ℕ) {n : ℕ} → k ≤ s .args .j + 1 → n ≡ sumTo (terms s test) k → n ≤ mostAccesses
 few s test k h e =
-    omega (arith, carriedIf-bound (s .args .board .now) (s .args .row .now) (s .args .times .now) (s .args .i) (s .args .j) (s .pre .0) test (s .args .a) k h)
+    omega (arith, carriedIf-bound _ _ _ _ _ (s .pre .0) (s .pre .1) test (s .args .a) k h)
 
 none : (s : tie.Start Inv-loop μ-loop) (test : ℕ → Bool) → sumTo (terms s test) (s .args .a) ≡ 0
-none s test = carried-none (s .args .board .now) (s .args .times .now) (s .args .i) test (s .args .j) (s .args .a)
+none s test = carried-none (s .args .board .now) (s .args .times .now) (s .args .t) test (s .args .j) (s .args .a)
 
 turn : (s : tie.Start Inv-loop μ-loop) (test : ℕ → Bool) (k : ℕ) {acc next : ℕ} → s .args .a ≤ k → acc ≡ sumTo (terms s test) k
-    → next ≡ acc + when (test (core (s .args .board .now) k)) (carryIn (s .args .board .now) (s .args .times .now) (s .args .i) (s .args .j) k)
+    → next ≡ acc + when (test (core (s .args .board .now) k)) (carryIn (s .args .board .now) (s .args .times .now) (s .args .t) (s .args .j) k)
     → next ≡ sumTo (terms s test) (k + 1)
-turn s test k h e n = carried-turn (s .args .board .now) (s .args .times .now) (s .args .i) test (s .args .j) (s .args .a) k h e n
+turn s test k h e n = carried-turn (s .args .board .now) (s .args .times .now) (s .args .t) test (s .args .j) (s .args .a) k h e n
 
 loop-holds : tie.Need-loop-holds Inv-loop μ-loop
 loop-holds c =
@@ -55,7 +57,7 @@ with-task-requires : tie.Need-with-task-requires Inv-loop μ-loop
 with-task-requires c κs =
     let s = c .before .before .before .before .before in
     let l = c .before .loop in
-    (s .pre .0, omega (arith, s .pre .0 .below), omega (arith, few s (below s) _ (l .inv .1) (l .inv .2)), omega (arith, few s (beyond s) _ (l .inv .1) (l .inv .3)))
+    ((s .pre .0, s .pre .1, omega (arith, s .pre .0 .task)), (few s (below s) _ (l .inv .1) (l .inv .2), few s (beyond s) _ (l .inv .1) (l .inv .3)))
 
 loop-again : tie.Need-loop-again Inv-loop μ-loop
 loop-again c =
@@ -73,8 +75,8 @@ returns c =
     let s = c .before .before .before .before .before in
     let l = c .before .loop in
     let end = c .loop-test .left in (
-      (at-end (sumTo _) (l .inv .2) (l .inv .1) (omega arith), omega (arith, few s (below s) _ (l .inv .1) (l .inv .2))),
-      (at-end (sumTo _) (l .inv .3) (l .inv .1) (omega arith), omega (arith, few s (beyond s) _ (l .inv .1) (l .inv .3))),
+      (at-end (sumTo _) (l .inv .2) (l .inv .1) (omega arith), few s (below s) _ (l .inv .1) (l .inv .2)),
+      (at-end (sumTo _) (l .inv .3) (l .inv .1) (omega arith), few s (beyond s) _ (l .inv .1) (l .inv .3)),
     )
 
 pub sides-spec : {M : Type 1} → statement M

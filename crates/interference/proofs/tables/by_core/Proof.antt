@@ -1,3 +1,5 @@
+-- `interference::tables::by_core` meets its contract.
+-- Assumes nothing.
 use borrow.Author.Needs.{needs}
 use native.Mathlib.Omega.{arith}
 use lib.Dec.{eqb}
@@ -14,15 +16,15 @@ use Rattle.interference.proofs.tables.by_core.Statement.{statement}
 use Rattle.interference.proofs.tables.by_core.Tie as tie
 
 abbrev Inv-loop : tie.InvT-loop
-Inv-loop board row times i j table₀ k₀ table k =
-    (k ≤ j + 1) × Holds 8 (λ y. sumTo (λ m. when (eqb (core board m) (y + 1)) (carriedOff board times i j m)) k) table
+Inv-loop board row times t x j table₀ k₀ table k =
+    (k ≤ j + 1) × Holds 8 (λ y. sumTo (λ m. when (eqb (core board m) (y + 1)) (carriedOff board times t x j m)) k) table
 
 abbrev μ-loop : tie.MeasureT-loop
-μ-loop board row times i j table₀ k₀ table k = j + 1 - k
+μ-loop board row times t x j table₀ k₀ table k = j + 1 - k
 
 -- what task m adds, and what of it to the sum at y
 abbrev off : tie.Start Inv-loop μ-loop → ℕ → ℕ
-off s m = carriedOff (s .args .board .now) (s .args .times .now) (s .args .i) (s .args .j) m
+off s m = carriedOff (s .args .board .now) (s .args .times .now) (s .args .t) (s .args .x) (s .args .j) m
 
 abbrev term : tie.Start Inv-loop μ-loop → ℕ → ℕ → ℕ
 term s y m = when (eqb (core (s .args .board .now) m) (y + 1)) (off s m)
@@ -39,8 +41,8 @@ add-table c =
     omega (
       arith,
       l .inv .1 .at y here,
-      onCore-bound _ _ _ _ _ (s .pre) (y + 1) (l .k) (omega arith),
-      carriedOff-bound _ _ _ _ _ (s .pre) (l .k) (omega (arith, s .pre .below)),
+      onCore-bound _ _ _ _ _ (s .pre .0) (s .pre .1) (s .args .x) (y + 1) (l .k) (omega arith),
+      carriedOff-bound _ _ _ _ _ (s .pre .0) (s .pre .1) (s .args .x) (l .k) (omega (arith, s .pre .0 .task)),
     )
 
 loop-again : tie.Need-loop-again Inv-loop μ-loop

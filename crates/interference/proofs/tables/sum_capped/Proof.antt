@@ -1,3 +1,5 @@
+-- `interference::tables::sum_capped` meets its contract.
+-- Assumes nothing.
 use borrow.Author.Needs.{needs}
 use native.Mathlib.Omega.{arith}
 use lib.ListN.{getD}

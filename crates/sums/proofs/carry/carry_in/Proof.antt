@@ -1,3 +1,5 @@
+-- `sums::carry::carry_in` meets its contract.
+-- Assumes nothing.
 use borrow.Author.Needs.{needs}
 use lib.Dec.{lit<}
 use native.Mathlib.Omega.{arith}
@@ -12,15 +14,15 @@ use Rattle.sums.proofs.carry.carry_in.Tie as tie
 returns : tie.Need-returns
 unfolding carryIn
 returns c =
-    let m = c .before .before .before .before .before .before in
+    let m = c .before .before .before .before .before in
     c .in-window .ensures
-    ∙ carry-cong (m .demand .ensures .0) (m .before .wide .ensures .0 ∙ m .before .before .access-cycles .ensures .0)
+    ∙ carry-cong _ (m .demand .ensures .0) (m .before .wide .ensures .0 ∙ m .before .before .access-cycles .ensures .0)
     (c .before .before .wide2 .ensures .0 ∙ c .before .before .before .period .ensures .0)
-    (c .before .before .before .before .before .time .ensures .0) (c .before .before .before .before .time2 .ensures .0) (c .before .less .ensures)
+    (c .before .before .before .before .time .ensures .0) (c .before .less .ensures)
 
 pub carry-in-spec : {M : Type 1} → statement M
 carry-in-spec =
     tie.close
-    (tie.spec (λ c κs. search needs) (λ c κs. search needs) (λ c κs. search needs) (λ c κs. search needs) (λ c κs. search needs) (λ c. search needs)
+    (tie.spec (λ c κs. search needs) (λ c κs. search needs) (λ c κs. search needs) (λ c κs. search needs) (λ c. search needs)
     (λ c. product-fits mostDemand 255 (omega arith) (omega arith) (lit< tt))
     (λ c κs. search needs) (λ c κs. search needs) (λ c κs. search needs) (λ c κs. search needs) returns)

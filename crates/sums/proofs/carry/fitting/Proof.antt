@@ -1,3 +1,5 @@
+-- `sums::carry::fitting` meets its contract.
+-- Assumes nothing.
 use borrow.Author.Needs.{needs}
 use lib.Dec.{lit<}
 use native.Mathlib.Omega.{arith}

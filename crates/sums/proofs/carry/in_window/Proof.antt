@@ -1,3 +1,5 @@
+-- `sums::carry::in_window` meets its contract.
+-- Assumes nothing.
 use borrow.Author.Needs.{needs}
 use lib.Dec.{lit<}
 use native.Mathlib.Nat.{div-le-self, mod-le}

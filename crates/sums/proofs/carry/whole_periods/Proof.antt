@@ -1,3 +1,5 @@
+-- `sums::carry::whole_periods` meets its contract.
+-- Assumes nothing.
 use borrow.Author.Needs.{needs}
 use mathlib.Core.Path.{refl}
 use Rattle.sums.proofs.carry.whole_periods.Statement.{statement}

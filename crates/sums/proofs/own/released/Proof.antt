@@ -1,3 +1,5 @@
+-- `sums::own::released` meets its contract.
+-- Assumes nothing.
 use borrow.Author.Needs.{needs}
 use native.Mathlib.Omega.{arith}
 use lib.Dec.{lit<}
@@ -27,12 +29,12 @@ few-accesses : (c : tie.At-loop Inv-loop μ-loop) → c .loop .sums .accesses �
 few-accesses c =
     let s = c .before .before .before .before .before in
     let h = s .pre .0 in
-    omega (arith, releaseCost-bound _ _ _ _ _ h _ mostDemand (c .loop .k) (demand-bound _ (h .sound) (s .args .i)) (omega arith))
+    omega (arith, releaseCost-bound _ _ _ _ h _ mostDemand (c .loop .k) (demand-bound _ (h .sound) (s .args .i)) (omega arith))
 
 little-work : (c : tie.At-loop Inv-loop μ-loop) → c .loop .sums .work ≤ mostHigherWork
 little-work c =
     let h = c .before .before .before .before .before .pre .0 in
-    omega (arith, releaseCost-bound _ _ _ _ _ h _ mostWork (c .loop .k) (work-bound _ (h .sound)) (omega arith))
+    omega (arith, releaseCost-bound _ _ _ _ h _ mostWork (c .loop .k) (work-bound _ (h .sound)) (omega arith))
 
 with-task-requires : tie.Need-with-task-requires Inv-loop μ-loop
 with-task-requires c κs =

@@ -1,3 +1,5 @@
+-- `sums::refresh::distributed` meets its contract.
+-- Assumes nothing.
 use borrow.Author.Needs.{needs}
 use native.Mathlib.Omega.{arith}
 use lib.Dec.{lit<}

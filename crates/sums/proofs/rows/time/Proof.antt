@@ -1,3 +1,5 @@
+-- `sums::rows::time` meets its contract.
+-- Assumes nothing.
 use borrow.Author.Needs.{needs}
 use native.Mathlib.Omega.{arith}
 use Rattle.sums.proofs.Bounds.{time-bound}
@@ -7,7 +9,7 @@ use Rattle.sums.proofs.rows.time.Tie as tie
 returns : tie.Need-returns
 returns c =
     let s = c .before .before .before .before in
-    (c .wide .ensures .0, omega (arith, time-bound _ (s .args .times .now) (s .pre .0) (s .pre .1 .short) (s .args .k) (s .pre .2)))
+    (c .wide .ensures .0, omega (arith, time-bound _ (s .args .times .now) (s .pre .0) (s .pre .1) (s .args .k) (s .pre .2)))
 
 pub time-spec : {M : Type 1} → statement M
 time-spec = tie.close (tie.spec (λ c. search needs) (λ c. search needs) (λ c κs. search needs) returns)
