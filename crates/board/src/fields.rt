@@ -61,6 +61,14 @@ pub fn slots_each(board: &[u32]) -> u32
     board[6]
 }
 
+// The slots of core y.
+pub fn slots(board: &[u32], y: u32) -> u32
+    requires { ⌜ (Sound (now board)) × (3 ≤ at.bus (now board)) × Between 1 (at.cores (now board)) y ⌝ }
+    ensures { λ r. ⌜ (r ≡ at.slots (now (board .entry)) y) × Between 1 8 r ⌝ }
+{
+    slots_each(board)
+}
+
 // d, the cycles of one bus access.
 pub fn access_cycles(board: &[u32]) -> u32
     requires { ⌜ Sound (now board) ⌝ }

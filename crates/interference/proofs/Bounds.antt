@@ -39,11 +39,12 @@ module _ (b row R : List ℕ) (j t : ℕ) (h : RowInput b row R j) (early : t �
   unfolding carriedFrom
   carriedFrom-bound x y = onCore-bound x y (j + 1) (omega arith)
 
--- the first n of eight sums, each at most cap
-pub capped-bound : (t : List ℕ) (n cap : ℕ) → n ≤ 8 → ((y : ℕ) → y < 8 → getD t y 0 ≤ mostAccesses) → sumTo (λ y. min (getD t y 0) cap) n < 2 ^ 64
+-- the first n of eight sums, each at most its cap
+pub capped-bound : (t : List ℕ) (n : ℕ) (cap : ℕ → ℕ) → n ≤ 8 → ((y : ℕ) → y < 8 → getD t y 0 ≤ mostAccesses)
+    → sumTo (λ y. min (getD t y 0) (cap y)) n < 2 ^ 64
 capped-bound t n cap few small =
     omega (
       arith,
-      sumTo-bound (λ y. min (getD t y 0) cap) n mostAccesses (λ y l. omega (arith, small y (omega arith))),
+      sumTo-bound (λ y. min (getD t y 0) (cap y)) n mostAccesses (λ y l. omega (arith, small y (omega arith))),
       mul-le-mul {n₁ = n} {m₁ = mostAccesses} {n₂ = 8} {m₂ = mostAccesses} few (le-refl _),
     )

@@ -13,7 +13,7 @@ use lib.Seq.{getD-set-same, getD-set-other}
 use borrow.Author.Tests.{eq-eqb, ne-eqb}
 use Rattle.folds.specs.Folds.{when, sumTo}
 use Rattle.folds.proofs.Folds.{sumTo-none, sumTo-next, sumTo-cong}
-use Rattle.board.specs.Layout.{cores, slotsEach, core}
+use Rattle.board.specs.Layout.{cores, slots, core}
 use Rattle.sums.specs.Sums.{lowest, ownAccesses, carryIn, coreAccesses, interference}
 use Rattle.sums.specs.Inputs.{Holds}
 use Rattle.interference.specs.Terms.{carriedFrom}
@@ -67,15 +67,15 @@ carriedFrom-is b R t x j y =
     sumTo-cong _ _ (j + 1) (λ k h. off-core (core b k) x y (carryIn b R t j k))
     ∙ sym (when-sum (not (eqb y x)) (λ k. when (eqb (core b k) y) (carryIn b R t j k)) (j + 1))
 
--- t, x, j and n are the time and the core of task i, task n, and the cores, as code computes them
-pub round-robin-is : (b R : List ℕ) (i : ℕ) (table : List ℕ) {t x j n cap : ℕ} → t ≡ getD R i 0 → x ≡ core b i → j ≡ lowest b
-    → Holds 8 (λ y. carriedFrom b R t x j (y + 1)) table → cores b ≤ 8 → n ≡ cores b → cap ≡ slotsEach b * ownAccesses b R i
-    → sumTo (λ y. min (getD table y 0) cap) n ≡ interference b R i 3
+-- t, x and j are the time and the core of task i, and task n, as code computes them
+pub round-robin-is : (b R : List ℕ) (i : ℕ) (table : List ℕ) {t x j s : ℕ} → t ≡ getD R i 0 → x ≡ core b i → j ≡ lowest b
+    → Holds 8 (λ y. carriedFrom b R t x j (y + 1)) table → cores b ≤ 8 → s ≡ ownAccesses b R i
+    → sumTo (λ y. min (getD table y 0) (slots b (y + 1) * s)) (cores b) ≡ interference b R i 3
 unfolding interference
-round-robin-is b R i table now here last h few e same =
-    ap₂ (λ (m c : ℕ). sumTo (λ y. min (getD table y 0) c) m) e same
+round-robin-is b R i table now here last h few own =
+    ap (λ (s : ℕ). sumTo (λ y. min (getD table y 0) (slots b (y + 1) * s)) (cores b)) own
     ∙ sumTo-cong _ _ (cores b)
     (λ y l.
-    ap (λ (v : ℕ). min v (slotsEach b * ownAccesses b R i))
-    (h .at y (omega arith) ∙ rw (now, here, last) (carriedFrom-is b R (getD R i 0) (core b i) (lowest b) (y + 1)))
-    ∙ when-min (not (eqb (y + 1) (core b i))) (coreAccesses b R (getD R i 0) (lowest b) (y + 1)) (slotsEach b * ownAccesses b R i))
+    let cap = slots b (y + 1) * ownAccesses b R i in
+    ap (λ (v : ℕ). min v cap) (h .at y (omega arith) ∙ rw (now, here, last) (carriedFrom-is b R (getD R i 0) (core b i) (lowest b) (y + 1)))
+    ∙ when-min (not (eqb (y + 1) (core b i))) (coreAccesses b R (getD R i 0) (lowest b) (y + 1)) cap)

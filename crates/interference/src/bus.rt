@@ -1,7 +1,7 @@
 // The accesses of other cores that can delay a task, by the bus.
 use crate::sides::sides;
+use crate::slots::sum_capped;
 use crate::tables::by_core;
-use crate::tables::sum_capped;
 use board::fields::bus;
 use board::fields::core;
 use board::fields::cores;
@@ -67,10 +67,9 @@ fn round_robin(board: &[u32], all: &[u32], times: &[u32], i: usize, s: u64) -> u
     requires { ⌜ s ≡ spec.ownAccesses (now board) (now times) i ⌝ }
     ensures { λ r. ⌜ r ≡ spec.interference (now (board .entry)) (now (times .entry)) i 3 ⌝ }
 {
-    let v = wide(slots_each(board));
     let t = time(board, times, i);
     let others = by_core(board, all, times, t, core(board, i), lowest(board));
-    sum_capped(others, index(cores(board)), v * s)
+    sum_capped(board, others, s)
 }
 
 // Bus 4.

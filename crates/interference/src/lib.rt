@@ -12,6 +12,7 @@ ghost use Rattle.sums.specs.Inputs.{SumInput};
 
 mod bus;
 mod sides;
+mod slots;
 mod tables;
 
 // Sum_i at these times, from the tasks' PD and the rows D'(i, _) and D'(n, _).

@@ -1,14 +1,11 @@
 // The accesses of the tasks off one core, core by core.
 use board::fields::core;
 use folds::index;
-use folds::smaller;
 use sums::carry::carry_in;
 ghost use mathlib.Core.Path.{_≡_};
-ghost use Prim.Native.Nat.{ℕ, _+_, _<_, _≤_, min};
-ghost use lib.ListN.{getD};
-ghost use Rattle.folds.specs.Folds.{sumTo};
+ghost use Prim.Native.Nat.{_+_, _<_, _≤_};
 ghost use Rattle.board.specs.Layout as at;
-ghost use Rattle.sums.specs.Limits.{latestTime, mostAccesses};
+ghost use Rattle.sums.specs.Limits.{latestTime};
 ghost use Rattle.sums.specs.Inputs.{Holds, RowInput};
 ghost use Rattle.interference.specs.Terms.{carriedOff, carriedFrom};
 
@@ -38,18 +35,4 @@ pub fn by_core(board: &[u32], row: &[u32], times: &[u32], t: u64, x: u32, j: usi
         k += 1;
     }
     table
-}
-
-// The sum of the first n sums, each at most cap.
-pub fn sum_capped(table: [u64; 8], n: usize, cap: u64) -> u64
-    requires { ⌜ (n ≤ 8) × ((y : ℕ) → y < 8 → getD table y 0 ≤ mostAccesses) ⌝ }
-    ensures { λ r. ⌜ r ≡ sumTo (λ y. min (getD table y 0) cap) n ⌝ }
-{
-    let mut sum: u64 = 0;
-    let mut y: usize = 0;
-    while y < n {
-        sum += smaller(table[y], cap);
-        y += 1;
-    }
-    sum
 }
