@@ -1,2 +1,3 @@
 // A board's layout, and its fields.
 pub mod fields;
+pub mod work;

@@ -37,8 +37,9 @@ join-none ws f four fit none =
     words-ext ws (λ s. member ws s || f s) four fit (λ s h. sym (ap (λ (t : Bool). member ws s || t) (none s) ∙ or-false (member ws s)))
 
 -- the block of a work word that reads or writes
-pub touch-data : (sets : List ℕ) (c w : ℕ) → (kindOf w ≡ 0 → ⊥) → wordsOf (λ s. member sets s || eqb (setOf c (blockOf w)) s) ≡ wordsOf (λ s. member sets s || dataTouches c w s)
-touch-data sets c w k = wordsOf-cong _ _ (λ s h. sym (rw (ne-eqb (kindOf w) 0 k)))
+pub touch-data : (sets : List ℕ) (c w : ℕ) {k : ℕ} → k ≡ setOf c (blockOf w) → (kindOf w ≡ 0 → ⊥)
+    → wordsOf (λ s. member sets s || eqb k s) ≡ wordsOf (λ s. member sets s || dataTouches c w s)
+touch-data sets c w e n = wordsOf-cong _ _ (λ s h. rw (e, ne-eqb (kindOf w) 0 n))
 
 -- ---- what is still to be added: f 0 .. f (n - 1), the last of them first
 

@@ -54,9 +54,9 @@ read-none : (w : ℕ) → (kindOf w ≡ 1 → ⊥) → readSlot w ≡ 0
 unfolding readSlot
 read-none w k = rw (ne-eqb (kindOf w) 1 k)
 
-pub read-load : (w : ℕ) → kindOf w ≡ 1 → readSlot w ≡ blockOf w + 1
+pub read-load : (w : ℕ) {m : ℕ} → m ≡ blockOf w → kindOf w ≡ 1 → m + 1 ≡ readSlot w
 unfolding readSlot
-read-load w k = rw (eq-eqb (kindOf w) 1 k)
+read-load w e k = rw (e, eq-eqb (kindOf w) 1 k)
 
 -- ---- what the code leaves where it loads a block into its set s, and where a work word loads nothing
 

@@ -1,5 +1,6 @@
 // The scan of a trace backwards: it marks each slot by what the slot loads.
 use bitset::add_to;
+use board::work;
 use folds::one_if;
 use trace::cache::Cache;
 use trace::cache::set_of;
@@ -64,18 +65,18 @@ fn mark_data(
         × (now (ecb .exit) ≡ wordsOf (λ (s : ℕ). member (now (ecb .entry)) s || dataTouches (cache .sets) w s))
         × (now (marks .exit) ≡ set (now (marks .entry)) e (markBy (cache .sets) (now (first .entry)) (readSlot w))) × (r ≤ 1) ⌝ }
 {
-    let kind = w / 268435456;
+    let kind = work::kind(w);
     match kind {
         0 => {
             marks[e] = 0;
             0
         }
         1 => {
-            mark_load(cache, w % 65536, e, first, ecb, marks);
+            mark_load(cache, work::block(w), e, first, ecb, marks);
             0
         }
         _ => {
-            add_to(ecb, set_of(cache, w % 65536));
+            add_to(ecb, set_of(cache, work::block(w)));
             marks[e] = 0;
             1
         }

@@ -1,4 +1,5 @@
 // The range of each word of a board.
+use board::work;
 ghost use mathlib.Core.Path.{_≡_};
 ghost use Prim.Native.Nat.{_≤_, _<_};
 ghost use lib.ListN.{length};
@@ -92,8 +93,8 @@ fn work_ok(board: &[u32], i: usize) -> bool
     ensures { λ r. ⌜ r ≡ workOk (now (board .entry)) i ⌝ }
 {
     let x = board[i];
-    let kind = x / 268435456;
-    let block = x % 65536;
+    let kind = work::kind(x);
+    let block = work::block(x);
     match kind {
         0 => block == 0,
         1 | 2 => FIRST_DATA_BLOCK <= block,

@@ -53,9 +53,9 @@ module _ (t : Trace) where
     unfolding accesses
     accesses-execute k = rw k (omega (arith, fetch-is))
 
-    pub accesses-read : (r w : ℕ) → r ≡ when (leb high (blockOf w)) 1 → w ≡ work t p → kindOf (work t p) ≡ 1 → f + r ≡ accesses t low high p
+    pub accesses-read : (r m : ℕ) → r ≡ when (leb high m) 1 → m ≡ blockOf (work t p) → kindOf (work t p) ≡ 1 → f + r ≡ accesses t low high p
     unfolding accesses
-    accesses-read r w read word k = rw k (omega (arith, fetch-is, read ∙ ap (λ (v : ℕ). when (leb high (blockOf v)) 1) word))
+    accesses-read r m read block k = rw k (omega (arith, fetch-is, read ∙ ap (λ (x : ℕ). when (leb high x) 1) block))
 
     pub accesses-write : kindOf (work t p) ≡ 2 → f + 1 ≡ accesses t low high p
     unfolding accesses

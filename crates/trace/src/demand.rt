@@ -2,6 +2,7 @@
 use super::fetch_word;
 use super::work_word;
 use board::fields;
+use board::work;
 use folds::one_if;
 ghost use mathlib.Core.Path.{_≡_};
 ghost use Prim.Native.Nat.{_<_, _≤_};
@@ -20,7 +21,7 @@ pub fn pd(board: &[u32], start: usize, len: usize) -> u32
     let mut sum: u32 = 0;
     let mut p: usize = 0;
     while p < len {
-        sum += work_word(board, start, len, p) / 65536 % 4096;
+        sum += work::cycles(work_word(board, start, len, p));
         p += 1;
     }
     sum
@@ -65,10 +66,10 @@ fn accesses_by(board: &[u32], start: usize, len: usize, p: usize, low: u32, high
 {
     let fetched = one_if(low <= fetch_word(board, start, len, p));
     let w = work_word(board, start, len, p);
-    let kind = w / 268435456;
+    let kind = work::kind(w);
     match kind {
         0 => fetched,
-        1 => fetched + one_if(high <= w % 65536),
+        1 => fetched + one_if(high <= work::block(w)),
         _ => fetched + 1,
     }
 }

@@ -1,16 +1,16 @@
 -- `marks::mark_data` meets its contract.
+-- Assumes nothing.
 use borrow.Author.Needs.{needs}
 use borrow.Author.Tests.{eq-eqb, ne-eqb}
 use Prim.Native.Nat.{ℕ}
-use mathlib.Core.Bool.{Bool, _||_}
+use mathlib.Core.Bool.{Bool}
 use mathlib.Core.Path.{_≡_, sym, ap, _∙_}
 use native.Mathlib.Omega.{arith}
 use denote.Ref.{now}
-use lib.Dec.{eqb}
 use lib.ListN.{set}
 use Rattle.folds.specs.Folds.{when}
-use Rattle.bitset.specs.Bits.{member, wordsOf}
 use Rattle.board.specs.Layout.{kindOf}
+use Rattle.trace.specs.Cache.{setOf}
 use Rattle.marks.specs.Marks.{markBy, withLoad, dataTouches}
 use Rattle.marks.proofs.Evicting.{join-none, touch-words, touch-data}
 use Rattle.marks.proofs.Marking.{read-load, skip-first, skip-mark}
@@ -19,12 +19,13 @@ use Rattle.marks.proofs.mark_data.Tie as tie
 
 executes : tie.Need-returns
 executes c =
-    let a = c .before .before .before .args in
+    let start = c .before .before .before .before in
+    let a = start .args in
     let sets = a .cache .sets in
     let kind : kindOf (a .w) ≡ 0 = omega arith in (
       sym (ap (λ (b : Bool). when b 1) (ne-eqb (kindOf (a .w)) 2 (λ k. omega arith))),
       skip-first sets (now (a .first)) (a .w) (λ k. omega arith),
-      join-none (now (a .ecb)) (dataTouches sets (a .w)) (c .before .before .before .pre .2) (c .before .before .slice-known .given) (λ s. rw (eq-eqb (kindOf (a .w)) 0 kind)),
+      join-none (now (a .ecb)) (dataTouches sets (a .w)) (start .pre .2) (c .before .before .before .slice-known .given) (λ s. rw (eq-eqb (kindOf (a .w)) 0 kind)),
       ap (set (now (a .marks)) (a .e)) (skip-mark sets (now (a .first)) (a .w) (λ k. omega arith)),
       omega arith,
     )
@@ -32,12 +33,13 @@ executes c =
 reads : tie.Need-returns-2
 reads c =
     let loaded = c .before .before .before .before in
-    let a = loaded .before .before .before .before .before .before .before .args in
+    let taken = loaded .before .before .before .before in
+    let a = taken .before .before .before .before .before .args in
     let sets = a .cache .sets in
-    let slot = sym (read-load (a .w) (omega arith)) in (
+    let slot = read-load (a .w) (taken .block .ensures .0) (omega arith) in (
       sym (ap (λ (b : Bool). when b 1) (ne-eqb (kindOf (a .w)) 2 (λ k. omega arith))),
       loaded .mark-load .ensures .0 ∙ ap (withLoad sets (now (a .first))) slot,
-      loaded .mark-load .ensures .1 ∙ touch-data (now (a .ecb)) sets (a .w) (λ k. omega arith),
+      loaded .mark-load .ensures .1 ∙ touch-data (now (a .ecb)) sets (a .w) (ap (setOf sets) (taken .block .ensures .0)) (λ k. omega arith),
       loaded .mark-load .ensures .2 ∙ ap (λ (x : ℕ). set (now (a .marks)) (a .e) (markBy sets (now (a .first)) x)) slot,
       omega arith,
     )
@@ -46,12 +48,13 @@ writes : tie.Need-returns-3
 writes c =
     let touched = c .before .before in
     let s = touched .before .set-of in
-    let a = touched .before .before .before .before .before .before .args in
+    let taken = touched .before .before in
+    let a = taken .before .before .before .before .before .before .args in
     let sets = a .cache .sets in (
       sym (ap (λ (b : Bool). when b 1) (eq-eqb (kindOf (a .w)) 2 (omega arith))),
       skip-first sets (now (a .first)) (a .w) (λ k. omega arith),
-      touched .add-to .ensures ∙ touch-words (now (a .ecb)) (s .result) ∙ ap (λ (k : ℕ). wordsOf (λ t. member (now (a .ecb)) t || eqb k t)) (s .ensures .0)
-          ∙ touch-data (now (a .ecb)) sets (a .w) (λ k. omega arith),
+      touched .add-to .ensures ∙ touch-words (now (a .ecb)) (s .result)
+          ∙ touch-data (now (a .ecb)) sets (a .w) (s .ensures .0 ∙ ap (setOf sets) (taken .block2 .ensures .0)) (λ k. omega arith),
       ap (set (now (a .marks)) (a .e)) (skip-mark sets (now (a .first)) (a .w) (λ k. omega arith)),
       omega arith,
     )
@@ -59,5 +62,6 @@ writes c =
 pub mark-data-spec : {M : Type 1} → statement M
 mark-data-spec =
     tie.close
-    (tie.spec (λ c. search needs) (λ c. search needs) (λ c κs. search needs) (λ c κs. search needs) (λ c κs. search needs) (λ c. search needs)
+    (tie.spec (λ c κs. search needs) (λ c. search needs) (λ c. search needs) (λ c κs. search needs) (λ c κs. search needs) (λ c κs. search needs)
+    (λ c κs. search needs) (λ c κs. search needs) (λ c. search needs)
     (λ c. search needs) (λ c. search needs) executes (λ c. search needs) (λ c. search needs) reads (λ c. search needs) (λ c. search needs) writes)

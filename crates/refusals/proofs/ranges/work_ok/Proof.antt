@@ -14,6 +14,9 @@ work-ok-spec =
     (tie.spec
     (λ c. search needs)
     (λ c. search needs)
-    (λ c. simp (eq-eqb _ _ (c .match .keys1)))
-    (λ c. simp (ne-eqb _ _ (c .before .match .rest .1), le-leb _ 2 (le-of-suc-le-suc (c .if1 .taken))))
-    (λ c. simp (ne-eqb _ _ (c .before .match .rest .1), lt-leb _ 2 (c .if1 .left))))
+    (λ c κs. search needs)
+    (λ c κs. search needs)
+    (λ c. simp (c .before .block .ensures .0, ← c .before .before .kind .ensures, eq-eqb _ _ (c .match .keys1)))
+    (λ c. let at = c .before .before in
+    simp (at .block .ensures .0, ← at .before .kind .ensures, ne-eqb _ _ (c .before .match .rest .1), le-leb _ 2 (le-of-suc-le-suc (c .if1 .taken))))
+    (λ c. simp (← c .before .before .before .kind .ensures, ne-eqb _ _ (c .before .match .rest .1), lt-leb _ 2 (c .if1 .left))))

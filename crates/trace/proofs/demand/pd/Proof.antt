@@ -1,7 +1,8 @@
 -- `trace::demand::pd` meets its contract. The invariant: sum has the cycles of the instructions passed.
+-- Assumes nothing.
 use borrow.Author.Needs.{needs}
 use Prim.Native.Nat.{_*_, _-_, _≤_}
-use mathlib.Core.Path.{_≡_, sym, ap}
+use mathlib.Core.Path.{_≡_, sym, ap, _∙_}
 use native.Mathlib.Omega.{arith}
 use Rattle.folds.specs.Folds.{sumTo}
 use Rattle.folds.proofs.Folds.{sumTo-none}
@@ -20,8 +21,8 @@ abbrev μ-loop : tie.MeasureT-loop
 
 loop-again : tie.Need-loop-again Inv-loop μ-loop
 loop-again c =
-    let at = c .before .before in
-    (search needs, omega arith, sumTo-turn _ (at .loop .p) (at .loop .inv .2) (ap cyclesOf (c .work-word .ensures)))
+    let at = c .before .before .before in
+    (search needs, omega arith, sumTo-turn _ (at .loop .p) (at .loop .inv .2) (c .cycles .ensures .0 ∙ ap cyclesOf (c .before .work-word .ensures)))
 
 returns : tie.Need-returns Inv-loop μ-loop
 unfolding tracePD
@@ -32,5 +33,5 @@ returns c =
 pub pd-spec : {M : Type 1} → statement M
 pd-spec =
     tie.close
-    (tie.spec Inv-loop μ-loop (λ c. (search needs, search needs, sym (sumTo-none _))) (λ c κs. search needs) (λ c. search needs) (λ c. search needs) (λ c. search needs)
+    (tie.spec Inv-loop μ-loop (λ c. (search needs, search needs, sym (sumTo-none _))) (λ c κs. search needs) (λ c κs. search needs) (λ c. search needs) (λ c. search needs) (λ c. search needs)
     loop-again returns)
