@@ -1,7 +1,9 @@
--- The parts of a sound board lie one after the other.
+-- The parts of a sound board lie one after the other, and the scratch of a board is no larger than that of the most tasks.
 -- Assumes nothing.
-use Prim.Native.Nat.{ℕ, _+_, _≤_, _<_}
+use Prim.Native.Nat.{ℕ, _+_, _*_, _≤_, _<_}
 use mathlib.Core.List.{List}
+use native.Mathlib.Nat.{mul-le-mul}
+use native.Mathlib.Omega.{arith}
 use Rattle.folds.proofs.Folds.{sumTo-below}
 use Rattle.board.specs.Layout as at
 use Rattle.board.specs.Sound.{Sound}
@@ -15,3 +17,9 @@ module _ (b : List ℕ) (s : Sound b) where
   pub trace-fits : (t : ℕ) → t < at.traces b → at.firstInstruction b t + at.traceLength b t ≤ at.instructions b
   unfolding at.firstInstruction
   trace-fits t l = rw (s .lengthSum) at (sumTo-below (at.traceLength b) t (at.traces b) l)
+
+pub square-fits : {n : ℕ} → n ≤ at.mostTasks → n * n ≤ at.mostTasks * at.mostTasks
+square-fits few = mul-le-mul few few
+
+pub scratch-fits : {n : ℕ} → n ≤ at.mostTasks → at.scratchWords n ≤ at.mostScratch
+scratch-fits few = omega (arith, square-fits few)

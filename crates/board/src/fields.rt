@@ -16,7 +16,7 @@ pub fn cores(board: &[u32]) -> u32
 // n.
 pub fn tasks(board: &[u32]) -> u32
     requires { ⌜ Sound (now board) ⌝ }
-    ensures { λ r. ⌜ (r ≡ at.tasks (now (board .entry))) × Between 1 64 r ⌝ }
+    ensures { λ r. ⌜ (r ≡ at.tasks (now (board .entry))) × Between 1 at.mostTasks r ⌝ }
 {
     board[1]
 }
@@ -88,7 +88,7 @@ pub fn refresh(board: &[u32]) -> u32
 // Tr, where there is a refresh.
 pub fn refresh_interval(board: &[u32]) -> u32
     requires { ⌜ (Sound (now board)) × (1 ≤ at.refresh (now board)) ⌝ }
-    ensures { λ r. ⌜ (r ≡ at.refreshInterval (now (board .entry))) × Between 1 268435455 r ⌝ }
+    ensures { λ r. ⌜ (r ≡ at.refreshInterval (now (board .entry))) × Between 1 at.longest r ⌝ }
 {
     board[9]
 }
@@ -96,7 +96,7 @@ pub fn refresh_interval(board: &[u32]) -> u32
 // The rows, where there is a refresh.
 pub fn refresh_rows(board: &[u32]) -> u32
     requires { ⌜ (Sound (now board)) × (1 ≤ at.refresh (now board)) ⌝ }
-    ensures { λ r. ⌜ (r ≡ at.refreshRows (now (board .entry))) × Between 1 65535 r ⌝ }
+    ensures { λ r. ⌜ (r ≡ at.refreshRows (now (board .entry))) × Between 1 at.mostRefreshRows r ⌝ }
 {
     board[10]
 }
@@ -120,7 +120,7 @@ pub fn pass_limit(board: &[u32]) -> u32
 // The code blocks that a scratchpad holds.
 pub fn held_code(board: &[u32]) -> u32
     requires { ⌜ (Sound (now board)) × (at.memory (now board) ≡ 1) ⌝ }
-    ensures { λ r. ⌜ (r ≡ at.heldCode (now (board .entry))) × (r ≤ 32768) ⌝ }
+    ensures { λ r. ⌜ (r ≡ at.heldCode (now (board .entry))) × (r ≤ at.firstDataBlock) ⌝ }
 {
     board[13]
 }
@@ -128,7 +128,7 @@ pub fn held_code(board: &[u32]) -> u32
 // The data blocks that a scratchpad holds.
 pub fn held_data(board: &[u32]) -> u32
     requires { ⌜ Sound (now board) ⌝ }
-    ensures { λ r. ⌜ (r ≡ at.heldData (now (board .entry))) × (r ≤ 32768) ⌝ }
+    ensures { λ r. ⌜ (r ≡ at.heldData (now (board .entry))) × (r ≤ at.firstDataBlock) ⌝ }
 {
     board[14]
 }
@@ -160,7 +160,7 @@ pub fn core(board: &[u32], k: usize) -> u32
 // T of task k.
 pub fn period(board: &[u32], k: usize) -> u32
     requires { ⌜ (Sound (now board)) × (k < at.tasks (now board)) ⌝ }
-    ensures { λ r. ⌜ (r ≡ at.period (now (board .entry)) k) × Between 1 268435455 r ⌝ }
+    ensures { λ r. ⌜ (r ≡ at.period (now (board .entry)) k) × Between 1 at.longest r ⌝ }
 {
     task_word(board, k, 1)
 }
@@ -168,7 +168,7 @@ pub fn period(board: &[u32], k: usize) -> u32
 // D of task k.
 pub fn deadline(board: &[u32], k: usize) -> u32
     requires { ⌜ (Sound (now board)) × (k < at.tasks (now board)) ⌝ }
-    ensures { λ r. ⌜ (r ≡ at.deadline (now (board .entry)) k) × Between 1 268435455 r ⌝ }
+    ensures { λ r. ⌜ (r ≡ at.deadline (now (board .entry)) k) × Between 1 at.longest r ⌝ }
 {
     task_word(board, k, 2)
 }

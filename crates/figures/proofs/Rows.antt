@@ -133,10 +133,6 @@ row-within n m i h =
     let more : (i + 1) * n ≡ i * n + n = add-mul i 1 n ∙ ap (λ (x : ℕ). i * n + x) (one-mul n) in
     omega arith
 
--- and the table of 64 tasks has 4,096 words
-pub square-fits : (n : ℕ) → n ≤ 64 → n * n ≤ 4096
-square-fits n few = let square : n * n ≤ 64 * n = mul-le-mul-right n few in omega arith
-
 -- ---- a row copied to a table, from word `from` on
 
 module _ (row : List ℕ) (from : ℕ) (before : List ℕ) where

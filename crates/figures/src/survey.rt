@@ -2,6 +2,7 @@
 use super::row;
 use super::traces;
 use super::traces::Cursor;
+use board::MOST_SCRATCH;
 use board::fields;
 use folds::index;
 use folds::larger;
@@ -13,7 +14,7 @@ ghost use mathlib.Core.Bool.{true, _||_};
 ghost use Prim.Native.Nat.{ℕ, _+_, _*_, _<_, _≤_};
 ghost use lib.ListN.{length};
 ghost use Rattle.bitset.specs.Bits.{member, wordsOf};
-ghost use Rattle.board.specs.Layout.{tasks};
+ghost use Rattle.board.specs.Layout.{tasks, scratchWords};
 ghost use Rattle.board.specs.Sound.{Sound};
 ghost use Rattle.trace.specs.Traces.{traceOf, tracePD, traceMD, evicts, mostUseful};
 ghost use Rattle.figures.specs.Ready.{Ready};
@@ -26,7 +27,7 @@ ghost use Rattle.figures.specs.Survey.{Held, Overheads, Written};
 // The figures of the tasks below count, and with `rows` the overheads of each with every task.
 pub fn survey(board: &[u32], count: usize, rows: bool, words: &mut [u32], sets: &mut [u64; 256])
     requires { ⌜ (Sound (now board)) × (count ≤ tasks (now board)) × (4 * tasks (now board) ≤ length (now words))
-        × (rows ≡ true → tasks (now board) * tasks (now board) + 4 * tasks (now board) ≤ length (now words)) ⌝ }
+        × (rows ≡ true → scratchWords (tasks (now board)) ≤ length (now words)) ⌝ }
     ensures { λ _. ⌜ (Held (now (board .entry)) (tasks (now (board .entry))) count (now (words .exit)) (now (sets .exit)))
         × (rows ≡ true → Overheads (now (board .entry)) (tasks (now (board .entry))) count (now (words .exit)))
         × (length (now (words .exit)) ≡ length (now (words .entry))) ⌝ }
@@ -64,7 +65,7 @@ pub fn overhead(board: &[u32], i: usize, j: usize) -> u32
     ensures { λ r. ⌜ r ≡ γ (now (board .entry)) i j ⌝ }
 {
     let n = index(fields::tasks(board));
-    let mut words = [0u32; 4352];
+    let mut words = [0u32; MOST_SCRATCH];
     let mut sets = [0u64; 256];
     survey(board, i + 1, true, &mut words, &mut sets);
     words[4 * n + (i * n + j)]
@@ -172,7 +173,7 @@ fn keep(
 
 // Writes PD and MD of task i to their words and, with `rows`, its row.
 fn store(words: &mut [u32], n: usize, i: usize, pd: u32, md: u32, rows: bool, row: &[u32; 64])
-    requires { ⌜ (i < n) × (n ≤ 64) × (4 * n ≤ length (now words)) × (rows ≡ true → n * n + 4 * n ≤ length (now words)) ⌝ }
+    requires { ⌜ (i < n) × (n ≤ 64) × (4 * n ≤ length (now words)) × (rows ≡ true → scratchWords n ≤ length (now words)) ⌝ }
     ensures { λ _. ⌜ (Written n i pd md rows (now (row .entry)) (now (words .entry)) (now (words .exit))) × (length (now (words .exit)) ≡ length (now (words .entry))) ⌝ }
 {
     words[2 * n + i] = pd;

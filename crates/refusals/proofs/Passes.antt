@@ -27,21 +27,21 @@ rangeIf-is : (t : Bool) (low high x : ℕ) → (t ≡ true → Between low high 
 rangeIf-is true low high x h n = within-is low high x (h refl)
 rangeIf-is false low high x h n = eq-eqb x 0 (n refl)
 
-codeOrSets-is : (m x : ℕ) → m ≤ 2 → (m ≡ 1 → x ≤ 32768) → (m ≡ 2 → Between 1 256 x) → (m ≡ 0 → x ≡ 0) → codeOrSets m x ≡ true
+codeOrSets-is : (m x : ℕ) → m ≤ 2 → (m ≡ 1 → x ≤ at.firstDataBlock) → (m ≡ 2 → Between 1 256 x) → (m ≡ 0 → x ≡ 0) → codeOrSets m x ≡ true
 codeOrSets-is zero x l h s n = eq-eqb x 0 (n refl)
-codeOrSets-is (suc zero) x l h s n = within-is 0 32768 x (omega arith, h refl)
+codeOrSets-is (suc zero) x l h s n = within-is 0 at.firstDataBlock x (omega arith, h refl)
 codeOrSets-is (suc (suc zero)) x l h s n = within-is 1 256 x (s refl)
 codeOrSets-is (suc (suc (suc m))) x l h s n = absurd (omega arith)
 
 one-or-more : (n : ℕ) → (n ≡ 0 → ⊥) → 1 ≤ n
 one-or-more n h = omega arith
 
-workOk-is : (w : ℕ) → kindOf w ≤ 2 → (kindOf w ≡ 0 → blockOf w ≡ 0) → (1 ≤ kindOf w → 32768 ≤ blockOf w) → WorkOk w
+workOk-is : (w : ℕ) → kindOf w ≤ 2 → (kindOf w ≡ 0 → blockOf w ≡ 0) → (1 ≤ kindOf w → at.firstDataBlock ≤ blockOf w) → WorkOk w
 workOk-is w k x d = go (eqb (kindOf w) 0) refl
   where
-    go : (t : Bool) → eqb (kindOf w) 0 ≡ t → cond t (eqb (blockOf w) 0) (leb (kindOf w) 2 && leb 32768 (blockOf w)) ≡ true
+    go : (t : Bool) → eqb (kindOf w) 0 ≡ t → cond t (eqb (blockOf w) 0) (leb (kindOf w) 2 && leb at.firstDataBlock (blockOf w)) ≡ true
     go true e = eq-eqb _ 0 (x (eqb-true _ 0 e))
-    go false e = rw (le-leb (kindOf w) 2 k, le-leb 32768 _ (d (one-or-more (kindOf w) (eqb-false _ 0 e))))
+    go false e = rw (le-leb (kindOf w) 2 k, le-leb at.firstDataBlock _ (d (one-or-more (kindOf w) (eqb-false _ 0 e))))
 
 -- a part of `count` words from `from` on, each of which passes by its place in it
 refuseFirst-is : (number : ℕ) (test : ℕ → Bool) (from count : ℕ) → ((p : ℕ) → p < count → test (from + p) ≡ true)
@@ -61,7 +61,7 @@ module _ (b : List ℕ) (s : Sound b) where
   unfolding headerOk headerRanges
   header =
       next 0 (omega arith) (within-is 1 8 _ (s .cores))
-      ∙ next 1 (omega arith) (within-is 1 64 _ (s .tasks))
+      ∙ next 1 (omega arith) (within-is 1 at.mostTasks _ (s .tasks))
       ∙ next 2 (omega arith) (within-is 1 512 _ (s .traces))
       ∙ next 3 (omega arith) (within-is 1 8192 _ (s .instructions))
       ∙ next 4 (omega arith) (within-is 0 2 _ (omega arith, s .memory))
@@ -69,18 +69,18 @@ module _ (b : List ℕ) (s : Sound b) where
       ∙ next 6 (omega arith) (rangeIf-is _ 1 8 _ (λ t. s .slots (leb-true 3 _ t)) (λ t. s .noSlots (leb-false 3 _ t)))
       ∙ next 7 (omega arith) (within-is 1 255 _ (s .access))
       ∙ next 8 (omega arith) (within-is 0 2 _ (omega arith, s .refresh))
-      ∙ next 9 (omega arith) (rangeIf-is _ 1 268435455 _ (λ t. s .interval (leb-true 1 _ t)) (λ t. s .noRefresh (leb-false 1 _ t) .0))
-      ∙ next 10 (omega arith) (rangeIf-is _ 1 65535 _ (λ t. s .rows (leb-true 1 _ t)) (λ t. s .noRefresh (leb-false 1 _ t) .1))
+      ∙ next 9 (omega arith) (rangeIf-is _ 1 at.longest _ (λ t. s .interval (leb-true 1 _ t)) (λ t. s .noRefresh (leb-false 1 _ t) .0))
+      ∙ next 10 (omega arith) (rangeIf-is _ 1 at.mostRefreshRows _ (λ t. s .rows (leb-true 1 _ t)) (λ t. s .noRefresh (leb-false 1 _ t) .1))
       ∙ next 11 (omega arith) (rangeIf-is _ 0 255 _ (λ t. (omega arith, s .refreshCycles)) (λ t. s .noRefresh (leb-false 1 _ t) .2))
       ∙ next 12 (omega arith) (le-leb 1 _ (s .limit))
       ∙ next 13 (omega arith) (codeOrSets-is (at.memory b) _ (s .memory) (s .held) (s .sets) (s .noMemory))
-      ∙ next 14 (omega arith) (rangeIf-is _ 0 32768 _ (λ t. (omega arith, s .heldData)) (λ t. s .noHeldData (eqb-false _ 1 t)))
+      ∙ next 14 (omega arith) (rangeIf-is _ 0 at.firstDataBlock _ (λ t. (omega arith, s .heldData)) (λ t. s .noHeldData (eqb-false _ 1 t)))
       ∙ firstBad-none (headerOk b) 15 20 (omega arith) (λ i l u. sym (headerSpare b i l) ∙ eq-eqb _ 0 (s .spare i l u))
 
   task : (k f : ℕ) → k < at.tasks b → f < 5 → taskOk b (20 + 5 * k + f) ≡ true
   unfolding taskRanges
   task k zero l u = sym (taskRow b (20 + 5 * k + 0) {k = 0} (omega arith)) ∙ within-is 1 _ _ (s .core k l)
-  task k (suc zero) l u = sym (taskRow b (20 + 5 * k + 1) {k = 1} (omega arith)) ∙ within-is 1 268435455 _ (s .period k l)
+  task k (suc zero) l u = sym (taskRow b (20 + 5 * k + 1) {k = 1} (omega arith)) ∙ within-is 1 at.longest _ (s .period k l)
   task k (suc (suc zero)) l u =
       let before : 20 + 5 * k + 2 - 1 ≡ 20 + 5 * k + 1 = omega arith in
       sym (taskRow b (20 + 5 * k + 2) {k = 2} (omega arith))
@@ -110,6 +110,6 @@ module _ (b : List ℕ) (s : Sound b) where
         refuseUnless-true 5 {test = eqb (at.firstTrace b (at.tasks b)) (at.traces b)} 20 (eq-eqb _ _ (s .traceSum)),
         refuseFirst-is 6 (lengthOk b) (at.lengthsAt b) (at.traces b) (λ t l. within-is 1 1024 _ (s .traceLength t l)),
         refuseUnless-true 7 {test = eqb (at.firstInstruction b (at.traces b)) (at.instructions b)} (at.lengthsAt b) (eq-eqb _ _ (s .lengthSum)),
-        refuseFirst-is 8 (fetchOk b) (at.fetchesAt b) (at.instructions b) (λ p l. lt-ltb _ 32768 (s .fetch p l)),
+        refuseFirst-is 8 (fetchOk b) (at.fetchesAt b) (at.instructions b) (λ p l. lt-ltb _ at.firstDataBlock (s .fetch p l)),
         refuseFirst-is 9 (workOk b) (at.worksAt b) (at.instructions b) work,
       )

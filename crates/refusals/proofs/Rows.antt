@@ -8,7 +8,7 @@ use mathlib.Core.List.{List}
 use borrow.Author.Tests.{eq-eqb, ne-eqb}
 use lib.Dec.{eqb}
 use lib.ListN.{getD, List·getD-eq-default}
-use Rattle.board.specs.Layout.{word, memory}
+use Rattle.board.specs.Layout.{word, memory, firstDataBlock}
 use Rattle.refusals.specs.Refusals.{within, isZero, rangeIf, headerRanges, headerOk, taskRanges, taskOk}
 use Rattle.refusals.specs.Parts.{wordOk}
 use Rattle.refusals.specs.declared.ranges.Part.{Part}
@@ -29,16 +29,16 @@ headerSpare b i h = ap (λ (f : ℕ → Bool). f (word b i)) (sym (List·getD-eq
 
 -- word 13: the sets of a cache, or the held code blocks of a scratchpad
 module _ (b : List ℕ) {i : ℕ} (at : i ≡ 13) where
-  choice : (t : Bool) → eqb (memory b) 2 ≡ t → cond t (within 1 256 (word b i)) (rangeIf (eqb (memory b) 1) 0 32768 (word b i)) ≡ headerOk b i
+  choice : (t : Bool) → eqb (memory b) 2 ≡ t → cond t (within 1 256 (word b i)) (rangeIf (eqb (memory b) 1) 0 firstDataBlock (word b i)) ≡ headerOk b i
   unfolding headerRanges
   choice t e =
-      ap (λ (s : Bool). cond s (within 1 256 (word b i)) (rangeIf (eqb (memory b) 1) 0 32768 (word b i))) (sym e)
+      ap (λ (s : Bool). cond s (within 1 256 (word b i)) (rangeIf (eqb (memory b) 1) 0 firstDataBlock (word b i))) (sym e)
       ∙ headerRow b at
 
   pub setsRow : memory b ≡ 2 → within 1 256 (word b i) ≡ headerOk b i
   setsRow m = choice true (eq-eqb _ 2 m)
 
-  pub heldRow : (memory b ≡ 2 → ⊥) → rangeIf (eqb (memory b) 1) 0 32768 (word b i) ≡ headerOk b i
+  pub heldRow : (memory b ≡ 2 → ⊥) → rangeIf (eqb (memory b) 1) 0 firstDataBlock (word b i) ≡ headerOk b i
   heldRow m = choice false (ne-eqb _ 2 m)
 
 pub taskRow : (b : List ℕ) (i : ℕ) {k : ℕ} → i % 5 ≡ k → getD (taskRanges b i) k isZero (word b i) ≡ taskOk b i

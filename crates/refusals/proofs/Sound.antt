@@ -39,10 +39,10 @@ bounded false high x e =
 
 -- word 13
 abbrev pub codeOrSets : ℕ → ℕ → Bool
-codeOrSets m x = cond (eqb m 2) (within 1 256 x) (rangeIf (eqb m 1) 0 32768 x)
+codeOrSets m x = cond (eqb m 2) (within 1 256 x) (rangeIf (eqb m 1) 0 at.firstDataBlock x)
 
-held-code : (m x : ℕ) → m ≡ 1 → codeOrSets m x ≡ true → x ≤ 32768
-held-code m x h e = within-true 0 32768 x (subst (λ (k : ℕ). codeOrSets k x ≡ true) h e) .1
+held-code : (m x : ℕ) → m ≡ 1 → codeOrSets m x ≡ true → x ≤ at.firstDataBlock
+held-code m x h e = within-true 0 at.firstDataBlock x (subst (λ (k : ℕ). codeOrSets k x ≡ true) h e) .1
 
 cache-sets : (m x : ℕ) → m ≡ 2 → codeOrSets m x ≡ true → Between 1 256 x
 cache-sets m x h e = within-true 1 256 x (subst (λ (k : ℕ). codeOrSets k x ≡ true) h e)
@@ -51,18 +51,18 @@ no-memory : (m x : ℕ) → m ≡ 0 → codeOrSets m x ≡ true → x ≡ 0
 no-memory m x h e = eqb-true x 0 (subst (λ (k : ℕ). codeOrSets k x ≡ true) h e)
 
 abbrev pub WorkOk : ℕ → Type 0
-WorkOk w = cond (eqb (kindOf w) 0) (eqb (blockOf w) 0) (leb (kindOf w) 2 && leb 32768 (blockOf w)) ≡ true
+WorkOk w = cond (eqb (kindOf w) 0) (eqb (blockOf w) 0) (leb (kindOf w) 2 && leb at.firstDataBlock (blockOf w)) ≡ true
 
-work-true : (w : ℕ) → WorkOk w → (kindOf w ≤ 2) × (kindOf w ≡ 0 → blockOf w ≡ 0) × (1 ≤ kindOf w → 32768 ≤ blockOf w)
+work-true : (w : ℕ) → WorkOk w → (kindOf w ≤ 2) × (kindOf w ≡ 0 → blockOf w ≡ 0) × (1 ≤ kindOf w → at.firstDataBlock ≤ blockOf w)
 work-true w e = go (eqb (kindOf w) 0) refl e
   where
-    go : (t : Bool) → eqb (kindOf w) 0 ≡ t → cond t (eqb (blockOf w) 0) (leb (kindOf w) 2 && leb 32768 (blockOf w)) ≡ true → (kindOf w ≤ 2) × (kindOf w ≡ 0 → blockOf w ≡ 0) × (1 ≤ kindOf w → 32768 ≤ blockOf w)
+    go : (t : Bool) → eqb (kindOf w) 0 ≡ t → cond t (eqb (blockOf w) 0) (leb (kindOf w) 2 && leb at.firstDataBlock (blockOf w)) ≡ true → (kindOf w ≤ 2) × (kindOf w ≡ 0 → blockOf w ≡ 0) × (1 ≤ kindOf w → at.firstDataBlock ≤ blockOf w)
     go true k f =
         let kind : kindOf w ≡ 0 = eqb-true _ 0 k in
         (omega arith, (λ _. eqb-true _ 0 f), λ h. absurd (omega arith))
     go false k f =
-        let both = and-both (leb (kindOf w) 2) (leb 32768 (blockOf w)) f in
-        (leb-true _ 2 (both .0), (λ h. absurd (eqb-false _ 0 k h)), λ _. leb-true 32768 _ (both .1))
+        let both = and-both (leb (kindOf w) 2) (leb at.firstDataBlock (blockOf w)) f in
+        (leb-true _ 2 (both .0), (λ h. absurd (eqb-false _ 0 k h)), λ _. leb-true at.firstDataBlock _ (both .1))
 
 -- from rows that pass to tests
 pub refuseFirst-passed : (number : ℕ) (test : ℕ → Bool) (from end : ℕ) → refuseFirst number test from end ≡ Passed
@@ -86,7 +86,7 @@ nine r1 r2 r3 r4 r5 r6 r7 r8 r9 e =
 
 module _ (b : List ℕ) (e : refusalOf b ≡ Passed) where
   rows :
-      (refuseUnless 1 (within 20 16384 (length b)) (length b) ≡ Passed)
+      (refuseUnless 1 (within 20 at.mostWords (length b)) (length b) ≡ Passed)
       × (refuseFirst 2 (headerOk b) 0 20 ≡ Passed)
       × (refuseUnless 3 (eqb (length b) (boardWords b)) (boardWords b) ≡ Passed)
       × (refuseFirst 4 (taskOk b) 20 (at.lengthsAt b) ≡ Passed)
@@ -98,8 +98,8 @@ module _ (b : List ℕ) (e : refusalOf b ≡ Passed) where
   unfolding refusalOf
   rows = nine _ _ _ _ _ _ _ _ _ e
 
-  size : Between 20 16384 (length b)
-  size = within-true 20 16384 (length b) (refuseUnless-passed 1 _ _ (rows .0))
+  size : Between 20 at.mostWords (length b)
+  size = within-true 20 at.mostWords (length b) (refuseUnless-passed 1 _ _ (rows .0))
 
   -- word i of the header passes its test
   header : (i : ℕ) → i < 20 → headerOk b i ≡ true
@@ -125,7 +125,7 @@ module _ (b : List ℕ) (e : refusalOf b ≡ Passed) where
     small = size .1;
     words = eqb-true _ _ (refuseUnless-passed 3 _ _ (rows .2));
     cores = within-true 1 8 _ (header 0 (omega arith));
-    tasks = within-true 1 64 _ (header 1 (omega arith));
+    tasks = within-true 1 at.mostTasks _ (header 1 (omega arith));
     traces = within-true 1 512 _ (header 2 (omega arith));
     instructions = within-true 1 8192 _ (header 3 (omega arith));
     memory = within-true 0 2 _ (header 4 (omega arith)) .1;
@@ -134,23 +134,23 @@ module _ (b : List ℕ) (e : refusalOf b ≡ Passed) where
     noSlots = λ h. unused (leb 3 (at.bus b)) 1 8 _ (lt-leb 3 _ h) (header 6 (omega arith));
     access = within-true 1 255 _ (header 7 (omega arith));
     refresh = within-true 0 2 _ (header 8 (omega arith)) .1;
-    interval = λ h. used (leb 1 (at.refresh b)) 1 268435455 _ (le-leb 1 _ h) (header 9 (omega arith));
-    rows = λ h. used (leb 1 (at.refresh b)) 1 65535 _ (le-leb 1 _ h) (header 10 (omega arith));
+    interval = λ h. used (leb 1 (at.refresh b)) 1 at.longest _ (le-leb 1 _ h) (header 9 (omega arith));
+    rows = λ h. used (leb 1 (at.refresh b)) 1 at.mostRefreshRows _ (le-leb 1 _ h) (header 10 (omega arith));
     refreshCycles = bounded (leb 1 (at.refresh b)) 255 _ (header 11 (omega arith));
     noRefresh = λ h. (
-      unused (leb 1 (at.refresh b)) 1 268435455 _ (lt-leb 1 _ h) (header 9 (omega arith)),
-      unused (leb 1 (at.refresh b)) 1 65535 _ (lt-leb 1 _ h) (header 10 (omega arith)),
+      unused (leb 1 (at.refresh b)) 1 at.longest _ (lt-leb 1 _ h) (header 9 (omega arith)),
+      unused (leb 1 (at.refresh b)) 1 at.mostRefreshRows _ (lt-leb 1 _ h) (header 10 (omega arith)),
       unused (leb 1 (at.refresh b)) 0 255 _ (lt-leb 1 _ h) (header 11 (omega arith)),
     );
     limit = leb-true 1 _ (header 12 (omega arith));
     held = λ m. held-code _ (word b 13) m (header 13 (omega arith));
-    heldData = bounded (eqb (at.memory b) 1) 32768 _ (header 14 (omega arith));
+    heldData = bounded (eqb (at.memory b) 1) at.firstDataBlock _ (header 14 (omega arith));
     sets = λ m. cache-sets _ (word b 13) m (header 13 (omega arith));
     noMemory = λ m. no-memory _ (word b 13) m (header 13 (omega arith));
-    noHeldData = λ h. unused (eqb (at.memory b) 1) 0 32768 _ (ne-eqb _ 1 h) (header 14 (omega arith));
+    noHeldData = λ h. unused (eqb (at.memory b) 1) 0 at.firstDataBlock _ (ne-eqb _ 1 h) (header 14 (omega arith));
     spare = spare-word;
     core = λ k l. within-true 1 (at.cores b) _ (field k 0 l (omega arith));
-    period = λ k l. within-true 1 268435455 _ (field k 1 l (omega arith));
+    period = λ k l. within-true 1 at.longest _ (field k 1 l (omega arith));
     deadline = λ k l.
         let before : 20 + 5 * k + 2 - 1 ≡ 20 + 5 * k + 1 = omega arith in
         subst (λ (i : ℕ). Between 1 (word b i) (at.deadline b k)) before
@@ -160,7 +160,7 @@ module _ (b : List ℕ) (e : refusalOf b ≡ Passed) where
     traceSum = eqb-true _ _ (refuseUnless-passed 5 _ _ (rows .4));
     traceLength = λ t l. within-true 1 1024 _ (refuseFirst-passed 6 (lengthOk b) (at.lengthsAt b) (at.fetchesAt b) (rows .5) (at.lengthsAt b + t) (omega arith) (omega arith));
     lengthSum = eqb-true _ _ (refuseUnless-passed 7 _ _ (rows .6));
-    fetch = λ p l. ltb-true _ 32768 (refuseFirst-passed 8 (fetchOk b) (at.fetchesAt b) (at.worksAt b) (rows .7) (at.fetchesAt b + p) (omega arith) (omega arith));
+    fetch = λ p l. ltb-true _ at.firstDataBlock (refuseFirst-passed 8 (fetchOk b) (at.fetchesAt b) (at.worksAt b) (rows .7) (at.fetchesAt b + p) (omega arith) (omega arith));
     kind = λ p l. work-true _ (work p l) .0;
     execute = λ p l. work-true _ (work p l) .1;
     data-block = λ p l. work-true _ (work p l) .2;

@@ -8,7 +8,7 @@ use native.Mathlib.Omega.{arith}
 use borrow.Author.Tests.{le-leb, lt-leb, eq-eqb, ne-eqb}
 use lib.Dec.{eqb}
 use lib.ListN.{length}
-use Rattle.board.specs.Layout.{boardWords}
+use Rattle.board.specs.Layout.{boardWords, mostWords}
 use Rattle.refusals.specs.Refusals.{within, headerOk, refuseUnless, firstBad, refuseFirst, _orElse_, refusalOf}
 use Rattle.refusals.specs.declared.Verdict.{Verdict}
 use Rattle.refusals.specs.declared.Verdict.the-variants.{Passed, Refused}
@@ -45,8 +45,8 @@ module _ (number : ℕ) (test : ℕ → Bool) (from end : ℕ) where
 -- ---- rows 1 to 3
 
 module _ (b : List ℕ) where
-  pub row1-passed : 20 ≤ length b → length b ≤ 16384 → refuseUnless 1 (within 20 16384 (length b)) (length b) ≡ Passed
-  row1-passed low high = refuseUnless-true 1 _ (rw (le-leb 20 _ low, le-leb _ 16384 high))
+  pub row1-passed : 20 ≤ length b → length b ≤ mostWords → refuseUnless 1 (within 20 mostWords (length b)) (length b) ≡ Passed
+  row1-passed low high = refuseUnless-true 1 _ (rw (le-leb 20 _ low, le-leb _ mostWords high))
 
   pub row2-passed : 20 ≤ firstBad (headerOk b) 0 20 → refuseFirst 2 (headerOk b) 0 20 ≡ Passed
   row2-passed h = refuseFirst-none 2 (headerOk b) 0 20 h
@@ -58,11 +58,11 @@ module _ (b : List ℕ) where
   unfolding refusalOf refuseUnless
   refusal-short h = rw (lt-leb 20 _ h)
 
-  pub refusal-long : 20 ≤ length b → 16384 < length b → Refused 1 (length b) ≡ refusalOf b
+  pub refusal-long : 20 ≤ length b → mostWords < length b → Refused 1 (length b) ≡ refusalOf b
   unfolding refusalOf refuseUnless
-  refusal-long l h = rw (le-leb 20 _ l, lt-leb _ 16384 h)
+  refusal-long l h = rw (le-leb 20 _ l, lt-leb _ mostWords h)
 
-  module _ (low : 20 ≤ length b) (high : length b ≤ 16384) (bad : ℕ) (found : bad ≡ firstBad (headerOk b) 0 20) where
+  module _ (low : 20 ≤ length b) (high : length b ≤ mostWords) (bad : ℕ) (found : bad ≡ firstBad (headerOk b) 0 20) where
     pub refusal-header : bad < 20 → Refused 2 bad ≡ refusalOf b
     unfolding refusalOf
     refusal-header h = rw (row1-passed low high, refuseFirst-some 2 (headerOk b) 0 20 (rw found at h)) (ap (Refused 2) found)

@@ -6,7 +6,7 @@ use mathlib.Core.List.{List, [], _∷_}
 use lib.ListN.{length, getD}
 use lib.Dec.{leb, ltb, eqb}
 use Rattle.folds.specs.Folds.{firstFrom}
-use Rattle.board.specs.Layout.{word, cores, tasks, traces, instructions, memory, bus, refresh, lengthsAt, fetchesAt, worksAt, boardWords, firstTrace, firstInstruction, kindOf, blockOf, firstDataBlock}
+use Rattle.board.specs.Layout.{word, cores, tasks, traces, instructions, memory, bus, refresh, lengthsAt, fetchesAt, worksAt, boardWords, firstTrace, firstInstruction, kindOf, blockOf, mostWords, mostTasks, longest, mostRefreshRows, firstDataBlock}
 use Rattle.refusals.specs.declared.Verdict.{Verdict}
 use Rattle.refusals.specs.declared.Verdict.the-variants.{Passed, Refused}
 
@@ -23,15 +23,11 @@ isZero x = eqb x 0
 abbrev pub rangeIf : Bool → ℕ → ℕ → ℕ → Bool
 rangeIf used low high x = cond used (within low high x) (isZero x)
 
--- the largest period and refresh interval
-abbrev pub longest : ℕ
-longest = 268435455
-
 -- the range of each header word; the words past these are spare
 unfoldable pub headerRanges : List ℕ → List (ℕ → Bool)
 headerRanges b =
     within 1 8
-    ∷ within 1 64
+    ∷ within 1 mostTasks
     ∷ within 1 512
     ∷ within 1 8192
     ∷ within 0 2
@@ -40,11 +36,11 @@ headerRanges b =
     ∷ within 1 255
     ∷ within 0 2
     ∷ rangeIf (leb 1 (refresh b)) 1 longest
-    ∷ rangeIf (leb 1 (refresh b)) 1 65535
+    ∷ rangeIf (leb 1 (refresh b)) 1 mostRefreshRows
     ∷ rangeIf (leb 1 (refresh b)) 0 255
     ∷ leb 1
-    ∷ (λ x. cond (eqb (memory b) 2) (within 1 256 x) (rangeIf (eqb (memory b) 1) 0 32768 x))
-    ∷ rangeIf (eqb (memory b) 1) 0 32768
+    ∷ (λ x. cond (eqb (memory b) 2) (within 1 256 x) (rangeIf (eqb (memory b) 1) 0 firstDataBlock x))
+    ∷ rangeIf (eqb (memory b) 1) 0 firstDataBlock
     ∷ []
 
 unfoldable pub headerOk : List ℕ → ℕ → Bool
@@ -97,7 +93,7 @@ Refused number place orElse rest = Refused number place
 -- rows 1 to 9
 unfoldable pub refusalOf : List ℕ → Verdict
 refusalOf b =
-    refuseUnless 1 (within 20 16384 (length b)) (length b)
+    refuseUnless 1 (within 20 mostWords (length b)) (length b)
     orElse refuseFirst 2 (headerOk b) 0 20
     orElse refuseUnless 3 (eqb (length b) (boardWords b)) (boardWords b)
     orElse refuseFirst 4 (taskOk b) 20 (lengthsAt b)

@@ -2,6 +2,7 @@
 pub mod ranges;
 pub mod search;
 
+use board::MOST_WORDS;
 use folds::index;
 use ranges::Part;
 use search::first_bad;
@@ -9,7 +10,7 @@ use search::sum_words;
 ghost use mathlib.Core.Path.{_≡_};
 ghost use Prim.Native.Nat.{_≤_};
 ghost use lib.ListN.{length};
-ghost use Rattle.board.specs.Layout.{boardWords};
+ghost use Rattle.board.specs.Layout.{boardWords, mostWords};
 ghost use Rattle.refusals.specs.Refusals.{headerOk, firstBad, refuseUnless, refuseFirst, _orElse_, refusalOf};
 ghost use Rattle.refusals.specs.Parts.{wordOk};
 
@@ -27,7 +28,7 @@ pub fn check(board: &[u32]) -> Verdict
     if len < 20 {
         return Verdict::Refused(1, len);
     }
-    if 16384 < len {
+    if MOST_WORDS < len {
         return Verdict::Refused(1, len);
     }
     let bad = first_bad(board, Part::Header, 0, 20);
@@ -54,7 +55,7 @@ fn board_words(board: &[u32]) -> usize
 
 // Rows 4 to 9, of a board that passes rows 1 to 3.
 fn check_body(board: &[u32]) -> Verdict
-    requires { ⌜ (length (now board) ≤ 16384) × (20 ≤ firstBad (headerOk (now board)) 0 20) × (length (now board) ≡ boardWords (now board)) ⌝ }
+    requires { ⌜ (length (now board) ≤ mostWords) × (20 ≤ firstBad (headerOk (now board)) 0 20) × (length (now board) ≡ boardWords (now board)) ⌝ }
     ensures { λ r. ⌜ r ≡ refusalOf (now (board .entry)) ⌝ }
 {
     let n = index(board[1]);

@@ -1,4 +1,7 @@
 // The range of each word of a board.
+use board::FIRST_DATA_BLOCK;
+use board::LONGEST;
+use board::MOST_REFRESH_ROWS;
 use board::work;
 ghost use mathlib.Core.Path.{_≡_};
 ghost use Prim.Native.Nat.{_≤_, _<_};
@@ -6,12 +9,6 @@ ghost use lib.ListN.{length};
 ghost use Rattle.refusals.specs.Refusals.{headerOk, taskOk, workOk, rangeIf};
 ghost use Rattle.refusals.specs.Refusals.{within as Refusals·within};
 ghost use Rattle.refusals.specs.Parts.{wordOk};
-
-// The largest period and refresh interval.
-const LONGEST: u32 = 268435455;
-
-// Blocks below it hold code, the others data.
-const FIRST_DATA_BLOCK: u32 = 32768;
 
 // The parts of a board whose words are tested, in their order.
 pub enum Part {
@@ -56,17 +53,17 @@ fn header_ok(board: &[u32], i: usize) -> bool
         7 => within(1, 255, x),
         8 => within(0, 2, x),
         9 => range_if(refreshed, 1, LONGEST, x),
-        10 => range_if(refreshed, 1, 65535, x),
+        10 => range_if(refreshed, 1, MOST_REFRESH_ROWS, x),
         11 => range_if(refreshed, 0, 255, x),
         12 => 1 <= x,
         13 => {
             if memory == 2 {
                 within(1, 256, x)
             } else {
-                range_if(memory == 1, 0, 32768, x)
+                range_if(memory == 1, 0, FIRST_DATA_BLOCK, x)
             }
         }
-        14 => range_if(memory == 1, 0, 32768, x),
+        14 => range_if(memory == 1, 0, FIRST_DATA_BLOCK, x),
         _ => x == 0,
     }
 }

@@ -6,7 +6,7 @@ ghost use mathlib.Core.Path.{_≡_};
 ghost use Prim.Native.Nat.{ℕ, _+_, _*_, _≤_, _<_};
 ghost use lib.ListN.{length};
 ghost use Rattle.folds.specs.Folds.{sumTo};
-ghost use Rattle.board.specs.Layout.{word};
+ghost use Rattle.board.specs.Layout.{word, mostWords};
 ghost use Rattle.refusals.specs.Refusals.{firstBad};
 ghost use Rattle.refusals.specs.Parts.{wordOk};
 
@@ -27,7 +27,7 @@ pub(crate) fn first_bad(board: &[u32], part: Part, from: usize, end: usize) -> u
 
 // The sum of count words, the first at from and each next one stride further on.
 pub fn sum_words(board: &[u32], from: usize, stride: usize, count: usize) -> usize
-    requires { ⌜ (count ≤ 16384) × ((k : ℕ) → k < count → from + stride * k < length (now board)) ⌝ }
+    requires { ⌜ (count ≤ mostWords) × ((k : ℕ) → k < count → from + stride * k < length (now board)) ⌝ }
     ensures { λ r. ⌜ r ≡ sumTo (λ k. word (now (board .entry)) (from + stride * k)) count ⌝ }
 {
     let mut sum = 0;

@@ -4,7 +4,7 @@ use Prim.Native.Nat.{ℕ, _+_, _-_, _≤_, _<_}
 use mathlib.Core.List.{List}
 use mathlib.Core.Path.{_≡_, refl, ap, subst}
 use native.Mathlib.Omega.{arith}
-use Rattle.board.specs.Layout.{word, instructions, traces, fetchesAt, worksAt, firstInstruction, traceLength, kindOf, blockOf}
+use Rattle.board.specs.Layout.{word, instructions, traces, fetchesAt, worksAt, firstInstruction, traceLength, kindOf, blockOf, firstDataBlock}
 use Rattle.board.specs.Sound.{Sound}
 use Rattle.board.proofs.Extents.{trace-fits}
 use Rattle.trace.specs.Traces.{traceOf, fetch, work, dataBlock}
@@ -39,13 +39,13 @@ module _ (b : List ℕ) (start len : ℕ) (sound : Sound b) (lies : Lies b start
       let place : worksAt b + among ≡ start + instructions b + p = omega (arith, lies .first) in
       ap (word b) place
 
-  pub fetch-bound : fetch (traceAt b start len) p < 32768
+  pub fetch-bound : fetch (traceAt b start len) p < firstDataBlock
   fetch-bound =
       let place : fetchesAt b + among ≡ start + p = omega (arith, lies .first) in
-      subst (λ (i : ℕ). word b i < 32768) place (sound .fetch among within)
+      subst (λ (i : ℕ). word b i < firstDataBlock) place (sound .fetch among within)
 
   pub kind-bound : kindOf w ≤ 2
   kind-bound = subst (λ (x : ℕ). kindOf x ≤ 2) work-there (sound .kind among within)
 
-  pub data-block : 1 ≤ kindOf w → 32768 ≤ dataBlock (traceAt b start len) p
-  data-block = subst (λ (x : ℕ). 1 ≤ kindOf x → 32768 ≤ blockOf x) work-there (sound .data-block among within)
+  pub data-block : 1 ≤ kindOf w → firstDataBlock ≤ dataBlock (traceAt b start len) p
+  data-block = subst (λ (x : ℕ). 1 ≤ kindOf x → firstDataBlock ≤ blockOf x) work-there (sound .data-block among within)

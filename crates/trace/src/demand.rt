@@ -1,6 +1,7 @@
 // The processor demand and the memory demand of a trace.
 use super::fetch_word;
 use super::work_word;
+use board::FIRST_DATA_BLOCK;
 use board::fields;
 use board::work;
 use folds::one_if;
@@ -34,13 +35,13 @@ pub fn uncached_md(board: &[u32], start: usize, len: usize) -> u32
 {
     let memory = fields::memory(board);
     match memory {
-        0 => accesses_past(board, start, len, 0, 32768),
+        0 => accesses_past(board, start, len, 0, FIRST_DATA_BLOCK),
         _ => accesses_past(
             board,
             start,
             len,
             fields::held_code(board),
-            32768 + fields::held_data(board),
+            FIRST_DATA_BLOCK + fields::held_data(board),
         ),
     }
 }

@@ -4,7 +4,7 @@ use denote.Ref.{now}
 use native.Mathlib.Omega.{arith}
 use borrow.Author.Needs.{needs}
 use Rattle.board.specs.Layout.{tasks}
-use Rattle.figures.proofs.Rows.{square-fits}
+use Rattle.board.proofs.Extents.{square-fits}
 use Rattle.figures_cases.proofs.print_board.Statement.{statement}
 use Rattle.figures_cases.proofs.print_board.Tie as tie
 
@@ -12,7 +12,7 @@ room : tie.Need-survey-requires
 room c κs =
     let start = c .before .before .before .before .before in
     let n = tasks (now (start .args .board)) in
-    let square : n * n ≤ 4096 = square-fits n (start .pre .tasks .1) in
+    let square : n * n ≤ 4096 = square-fits (start .pre .tasks .1) in
     (start .pre, omega arith, omega (arith, start .pre .tasks), λ wanted. omega (arith, square, start .pre .tasks))
 
 pub print-board-spec : {M : Type 1} → statement M

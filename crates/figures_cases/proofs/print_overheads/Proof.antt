@@ -2,7 +2,8 @@
 use Prim.Native.Nat.{_+_, _*_, _-_, _≤_}
 use native.Mathlib.Omega.{arith}
 use borrow.Author.Needs.{needs}
-use Rattle.figures.proofs.Rows.{row-within, square-fits}
+use Rattle.board.proofs.Extents.{square-fits}
+use Rattle.figures.proofs.Rows.{row-within}
 use Rattle.figures_cases.proofs.print_overheads.Statement.{statement}
 use Rattle.figures_cases.proofs.print_overheads.Tie as tie
 
@@ -15,7 +16,7 @@ abbrev μ : tie.MeasureT-loop
 within : (c : tie.In-loop Inv μ) → let a = c .before .before .args in 4 * a .n + c .before .loop .i * a .n + a .n ≤ 4352
 within c =
     let start = c .before .before in
-    omega (arith, row-within (start .args .n) (start .args .n) (c .before .loop .i) (c .loop-test .taken), square-fits (start .args .n) (start .pre), start .pre)
+    omega (arith, row-within (start .args .n) (start .args .n) (c .before .loop .i) (c .loop-test .taken), square-fits (start .pre), start .pre)
 
 pub print-overheads-spec : {M : Type 1} → statement M
 print-overheads-spec =

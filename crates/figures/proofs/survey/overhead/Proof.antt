@@ -5,8 +5,9 @@ use denote.Ref.{now}
 use native.Mathlib.Omega.{arith}
 use borrow.Author.Needs.{needs}
 use lib.ListN.{getD}
-use Rattle.board.specs.Layout.{tasks}
-use Rattle.figures.proofs.Rows.{row-within, square-fits}
+use Rattle.board.specs.Layout.{tasks, mostScratch}
+use Rattle.board.proofs.Extents.{square-fits, scratch-fits}
+use Rattle.figures.proofs.Rows.{row-within}
 use Rattle.figures.proofs.survey.overhead.Statement.{statement}
 use Rattle.figures.proofs.survey.overhead.Tie as tie
 
@@ -17,17 +18,16 @@ room : tie.Need-survey-requires
 room c κs =
     let start = c .before .before .before .before .before in
     let n = tasks (now (start .args .board)) in
-    let square : n * n ≤ 4096 = square-fits n (start .pre .0 .tasks .1) in
-    (start .pre .0, omega (arith, start .pre .1), omega (arith, start .pre .0 .tasks), λ wanted. omega (arith, square, start .pre .0 .tasks))
+    (start .pre .0, omega (arith, start .pre .1), omega (arith, start .pre .0 .tasks), λ wanted. scratch-fits (start .pre .0 .tasks .1))
 
 -- the word lies in row i
-within : (c : tie.After-index) → let a = c .before .before .before .args in c .index .result * 4 + (a .i * c .index .result + a .j) < 4352
+within : (c : tie.After-index) → let a = c .before .before .before .args in c .index .result * 4 + (a .i * c .index .result + a .j) < mostScratch
 within c =
     let start = c .before .before .before in
     let n = c .index .result in
     let e = size c in
     let few : n ≤ 64 = omega (arith, e, start .pre .0 .tasks) in
-    omega (arith, row-within n n (start .args .i) (let l : start .args .i < n = omega (arith, e, start .pre .1) in l), square-fits n few, e, start .pre .2)
+    omega (arith, row-within n n (start .args .i) (let l : start .args .i < n = omega (arith, e, start .pre .1) in l), square-fits few, e, start .pre .2)
 
 returns : tie.Need-returns
 returns c =

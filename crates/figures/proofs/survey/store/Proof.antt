@@ -7,7 +7,8 @@ use denote.Ref.{now}
 use native.Mathlib.Omega.{arith}
 use borrow.Author.Needs.{needs}
 use lib.ListN.{length, set, length-set}
-use Rattle.figures.proofs.Rows.{row-within, square-fits, copied-none}
+use Rattle.board.proofs.Extents.{square-fits}
+use Rattle.figures.proofs.Rows.{row-within, copied-none}
 use Rattle.figures.proofs.Held.{stored}
 use Rattle.figures.proofs.survey.store.Statement.{statement}
 use Rattle.figures.proofs.survey.store.Tie as tie
@@ -25,10 +26,10 @@ second : tie.Need-slice-write-words-2
 second c = let a = c .before .args in omega (arith, length-set (now (a .words)) (2 * a .n + a .i) (a .pd))
 
 row-fits : tie.Need-mul-copy-2
-row-fits c = let start = c .before .before .before in let a = start .args in omega (arith, row-within (a .n) (a .n) (a .i) (start .pre .0), square-fits (a .n) (start .pre .1))
+row-fits c = let start = c .before .before .before in let a = start .args in omega (arith, row-within (a .n) (a .n) (a .i) (start .pre .0), square-fits (start .pre .1))
 
 place-fits : tie.Need-add-copy
-place-fits c = let start = c .before .before .before in let a = start .args in omega (arith, row-within (a .n) (a .n) (a .i) (start .pre .0), square-fits (a .n) (start .pre .1))
+place-fits c = let start = c .before .before .before in let a = start .args in omega (arith, row-within (a .n) (a .n) (a .i) (start .pre .0), square-fits (start .pre .1))
 
 room : tie.Need-copy-requires
 room c κs =

@@ -5,6 +5,7 @@ use mathlib.Core.Path.{ap₂, _∙_}
 use native.Mathlib.Omega.{arith}
 use denote.Ref.{now}
 use Rattle.folds.specs.Folds.{sumTo}
+use Rattle.board.specs.Layout.{firstDataBlock}
 use Rattle.trace.specs.Slots.{accesses}
 use Rattle.trace.specs.Places.{traceAt}
 use Rattle.trace.proofs.Places.{data-block}
@@ -24,7 +25,7 @@ returns-2 c =
     let a = held .before .before .before .before .before .args in
     let t = traceAt (now (a .board)) (a .start) (a .len) in
     c .accesses-past2 .ensures
-    ∙ ap₂ (λ (x y : ℕ). sumTo (accesses t x (32768 + y)) (a .len)) (held .before .held-code .ensures .0) (held .held-data .ensures .0)
+    ∙ ap₂ (λ (x y : ℕ). sumTo (accesses t x (firstDataBlock + y)) (a .len)) (held .before .held-code .ensures .0) (held .held-data .ensures .0)
     ∙ traceMD-held t (omega arith)
 
 pub uncached-md-spec : {M : Type 1} → statement M
