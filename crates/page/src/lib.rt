@@ -53,10 +53,11 @@ fn words_page(out: &mut [u8], bytes: &[u8]) -> usize
     board_page(out, &words[..n])
 }
 
-// Puts the page of a board.
-fn board_page(out: &mut [u8], board: &[u32]) -> usize
+// Puts the page of a board at the start of out, and answers its length.
+pub fn board_page(out: &mut [u8], board: &[u32]) -> usize
     requires { ⌜ 4096 ≤ length (now out) ⌝ }
     ensures { λ r. ⌜ Put (now (out .entry)) 0 (boardPage (now (board .entry))) (now (out .exit)) r ⌝ }
+    ensures { λ r. ⌜ Counts r (now (out .exit)) ⌝ }
 {
     let mut times = [0u32; 64];
     let mut scratch = [0u32; 4352];

@@ -1,7 +1,7 @@
 -- `page::board_page` meets its contract.
 use borrow.Author.Needs.{needs}
 use native.Mathlib.Omega.{arith}
-use Rattle.text.proofs.Buffer.{put-same}
+use Rattle.text.proofs.Buffer.{put-same, put-counts}
 use Rattle.page.proofs.Pages.{analyse-printable, boardPage-is}
 use Rattle.page.proofs.board_page.Statement.{statement}
 use Rattle.page.proofs.board_page.Tie as tie
@@ -17,4 +17,4 @@ board-page-spec =
     (λ c.
     let put = c .before .before in
     let call = put .before .before .before .before .before .analyse-alone in
-    put-same (boardPage-is _ _ _ (call .ensures .0) (call .ensures .1 .0)) (put .answer-page .ensures)))
+    (put-same (boardPage-is _ _ _ (call .ensures .0) (call .ensures .1 .0)) (put .answer-page .ensures), put-counts (put .answer-page .ensures))))

@@ -17,4 +17,4 @@ words-page-spec =
     let put = c .before .before in
     let words = put .before .before .before .before in
     let start = words .before .before .before .before in
-    put-same (pageOf-passed (start .args .bytes .now) _ (start .pre .0) (words .decode .ensures .0)) (put .board-page .ensures)))
+    put-same (pageOf-passed (start .args .bytes .now) _ (start .pre .0) (words .decode .ensures .0)) (put .board-page .ensures .0)))
