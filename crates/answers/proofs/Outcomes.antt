@@ -3,10 +3,9 @@
 use Prim.Native.Nat.{ℕ, _+_, _*_, _≤_, _<_}
 use mathlib.Core.List.{List}
 use mathlib.Core.Path.{_≡_, refl, sym, ap, subst, _∙_}
-use native.Mathlib.Nat.{mul-le-mul}
 use native.Mathlib.Omega.{arith}
 use lib.ListN.{length}
-use Rattle.board.specs.Layout.{tasks}
+use Rattle.board.specs.Layout.{tasks, scratchWords}
 use Rattle.board.specs.Sound.{Sound}
 use Rattle.refusals.specs.declared.Verdict.{Verdict}
 use Rattle.refusals.specs.declared.Verdict.the-variants.{Passed, Refused}
@@ -48,12 +47,8 @@ records-value b (Refused number place) e = refl
 
 -- ---- a scratch of so many words has room for the tasks
 
-pub room-for : {b : List ℕ} {n : ℕ} (w : List ℕ) → Sound b → n ≡ tasks b → tasks b * tasks b + 4 * tasks b ≤ length w → Room b n w
+pub room-for : {b : List ℕ} {n : ℕ} (w : List ℕ) → Sound b → n ≡ tasks b → scratchWords (tasks b) ≤ length w → Room b n w
 room-for w s e room = record { sound = s; tasks = e; words = rw e room }
-
--- 64 × 64 + 4 × 64 words are enough
-pub most-words : {b : List ℕ} → Sound b → tasks b * tasks b + 4 * tasks b ≤ 4352
-most-words {b} s = omega (arith, mul-le-mul (s .tasks .1) (s .tasks .1))
 
 -- ---- analyse: the answer, the times buffer and the scratch
 

@@ -1,5 +1,6 @@
 // What a call does once it is not refused.
 use crate::Answer;
+use board::MOST_SCRATCH;
 use folds::index;
 use settling::Passes;
 ghost use mathlib.Core.Path.{_≡_};
@@ -55,7 +56,7 @@ pub fn sum(board: &[u32], times: &[u32], i: usize) -> u64
     ensures { λ r. ⌜ r ≡ taskSum (now (board .entry)) (now (times .entry)) (i - 1) ⌝ }
 {
     let n = index(board::fields::tasks(board));
-    let mut words = [0u32; 4352];
+    let mut words = [0u32; MOST_SCRATCH];
     let mut sets = [0u64; 256];
     scratch::prepare(board, n, &mut words, &mut sets);
     scratch::sum_of(board, n, &words, times, i - 1)

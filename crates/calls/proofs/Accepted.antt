@@ -6,7 +6,7 @@ use mathlib.Core.Path.{_≡_}
 use lib.Dec.{leb}
 use lib.ListN.{length, getD}
 use borrow.Author.Tests.{leb-true}
-use Rattle.board.specs.Layout.{tasks}
+use Rattle.board.specs.Layout.{tasks, scratchWords}
 use Rattle.board.specs.Sound.{Between}
 use Rattle.refusals.specs.Refusals.{within, refuseUnless, refuseFirst, _orElse_, refusalOf}
 use Rattle.refusals.specs.declared.Verdict.the-variants.{Passed}
@@ -66,7 +66,7 @@ module _ (b : List ℕ) where
         analysable = record {
           sound = sound b (rows .0);
           timesRoom = row-length 11 n times (rest .0);
-          scratchRoom = row-length 12 (n * n + 4 * n) scratch (last .0);
+          scratchRoom = row-length 12 (scratchWords n) scratch (last .0);
         };
         table = row-length 13 n room (last .1);
       }

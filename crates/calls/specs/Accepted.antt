@@ -1,6 +1,6 @@
 -- What is known where a call is not refused; the laws in proofs/Accepted.antt derive it.
 -- Assumes nothing.
-use Prim.Native.Nat.{ℕ, _+_, _*_, _≤_, _<_}
+use Prim.Native.Nat.{ℕ, _≤_, _<_}
 use mathlib.Core.List.{List}
 use mathlib.Core.Path.{_≡_}
 use Rattle.board.specs.Layout as at
@@ -15,7 +15,7 @@ pub record Judged (b : List ℕ) (v : Verdict) (n : ℕ) : Type 0 where
   pub rows : v ≡ refusalOf b
   pub tasks : v ≡ Passed → n ≡ at.tasks b
   pub some : 0 < n → v ≡ Passed
-  pub few : n ≤ 64
+  pub few : n ≤ at.mostTasks
 
 pub record FiguresTaken (b : List ℕ) (room : ℕ) : Type 0 where
   pub sound : Sound b
@@ -35,7 +35,7 @@ pub record WeighTaken (b R : List ℕ) (i : ℕ) : Type 0 where
 pub record Analysable (b : List ℕ) (times scratch : ℕ) : Type 0 where
   pub sound : Sound b
   pub timesRoom : at.tasks b ≤ times
-  pub scratchRoom : at.tasks b * at.tasks b + 4 * at.tasks b ≤ scratch
+  pub scratchRoom : at.scratchWords (at.tasks b) ≤ scratch
 
 pub record AnalyseTaken (b : List ℕ) (times scratch room : ℕ) : Type 0 where
   pub analysable : Analysable b times scratch

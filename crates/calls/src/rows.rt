@@ -5,7 +5,7 @@ use refusals::check_that;
 ghost use mathlib.Core.Path.{_≡_};
 ghost use Prim.Native.Nat.{_<_, _≤_};
 ghost use lib.ListN.{length};
-ghost use Rattle.board.specs.Layout.{tasks};
+ghost use Rattle.board.specs.Layout.{tasks, mostTasks};
 ghost use Rattle.refusals.specs.Refusals.{firstBad, refusalOf};
 ghost use Rattle.refusals.specs.declared.Verdict.the-variants.{Passed};
 ghost use Rattle.calls.specs.Refusals.{taskRow, timesRow, scratchRow, tableRow, timeOk, timeRow};
@@ -49,7 +49,7 @@ pub fn times_row(n: usize, times: usize) -> Verdict
 
 // Row 12, of the words of a scratch.
 pub fn scratch_row(n: usize, scratch: usize) -> Verdict
-    requires { ⌜ n ≤ 64 ⌝ }
+    requires { ⌜ n ≤ mostTasks ⌝ }
     ensures { λ r. ⌜ r ≡ scratchRow n scratch ⌝ }
 {
     check_that(12, n * n + 4 * n <= scratch, scratch)

@@ -33,9 +33,9 @@ passable-kept room e = record { sound = room .sound; tasks = room .tasks; words 
 
 -- what a survey of every task asks
 pub surveyable : {b : List ℕ} {n : ℕ} {w : List ℕ} → Room b n w
-    → (Sound b) × (n ≤ at.tasks b) × (4 * at.tasks b ≤ length w) × (true ≡ true → at.tasks b * at.tasks b + 4 * at.tasks b ≤ length w)
+    → (Sound b) × (n ≤ at.tasks b) × (4 * at.tasks b ≤ length w) × (true ≡ true → at.scratchWords (at.tasks b) ≤ length w)
 surveyable {b} {n} {w} room =
-    let words : at.tasks b * at.tasks b + 4 * at.tasks b ≤ length w = rw (← room .tasks) (room .words) in
+    let words : at.scratchWords (at.tasks b) ≤ length w = rw (← room .tasks) (room .words) in
     (room .sound, omega (arith, room .tasks), omega arith, λ _. words)
 
 -- what it leaves: the figures and the overheads are in w₁
@@ -119,7 +119,7 @@ module _ {b : List ℕ} {n : ℕ} {w : List ℕ} (ready : Prepared b n w) where
       → (all ≡ 4 * n + (n - 1) * n) × (all + n ≤ 4 * n + n * n)
       → SumInput b (take (3 * n - 2 * n) (drop (2 * n) w)) (take (own + n - own) (drop own w)) (take (all + n - all) (drop all w)) R i
   sum-input {R} {i} {own} {all} times task row last =
-      let words : n * n + 4 * n ≤ length w = ready .room .words in
+      let words : at.scratchWords n ≤ length w = ready .room .words in
       record {
         sound = ready .room .sound;
         task = rw (← ready .room .tasks) task;

@@ -5,6 +5,7 @@ use mathlib.Core.List.{List}
 use mathlib.Core.Path.{_≡_}
 use lib.ListN.{length, getD}
 use Rattle.board.specs.Layout as at
+use Rattle.board.specs.Layout.{mostTasks, scratchWords}
 use Rattle.board.specs.Sound.{Sound}
 use Rattle.figures.specs.Figures.{taskPD}
 use Rattle.sums.specs.Sums.{memoryDemand}
@@ -20,7 +21,7 @@ pub record Passable (b : List ℕ) (n : ℕ) (w : List ℕ) : Type 0 where
 pub record Room (b : List ℕ) (n : ℕ) (w : List ℕ) : Type 0 where
   pub sound : Sound b
   pub tasks : n ≡ at.tasks b
-  pub words : n * n + 4 * n ≤ length w
+  pub words : scratchWords n ≤ length w
 
 -- word k of the row at `at`, with the MD of task k added
 abbrev pub withMD : ℕ → ℕ → List ℕ → ℕ → ℕ
@@ -28,15 +29,15 @@ withMD n at w k = getD w (at + k) 0 + getD w (3 * n + k) 0
 
 -- a row to which MD can be added: it is there, after the MD, and every sum is a demand
 pub record RowAddable (n at : ℕ) (w : List ℕ) : Type 0 where
-  pub few : n ≤ 64
+  pub few : n ≤ mostTasks
   pub behind : 4 * n ≤ at
   pub words : at + n ≤ length w
   pub fits : (k : ℕ) → k < n → withMD n at w k ≤ mostDemand
 
 -- n such rows, from word 4n on
 pub record Addable (n : ℕ) (w : List ℕ) : Type 0 where
-  pub few : n ≤ 64
-  pub words : n * n + 4 * n ≤ length w
+  pub few : n ≤ mostTasks
+  pub words : scratchWords n ≤ length w
   pub fits : (i k : ℕ) → i < n → k < n → withMD n (4 * n + i * n) w k ≤ mostDemand
 
 -- w' is w with MD added to the first `count` rows

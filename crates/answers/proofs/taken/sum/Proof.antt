@@ -3,7 +3,8 @@
 use mathlib.Core.Path.{_∙_}
 use native.Mathlib.Omega.{arith}
 use borrow.Author.Needs.{needs}
-use Rattle.answers.proofs.Outcomes.{room-for, most-words}
+use Rattle.board.proofs.Extents.{scratch-fits}
+use Rattle.answers.proofs.Outcomes.{room-for}
 use Rattle.answers.proofs.taken.sum.Statement.{statement}
 use Rattle.answers.proofs.taken.sum.Tie as tie
 
@@ -16,7 +17,7 @@ sum-spec =
     (λ c. search needs)
     (λ c κs.
     let s = c .before .before .before .before .before .before in
-    room-for _ (s .pre .sound) (c .before .before .index .ensures .0 ∙ c .before .before .before .tasks .ensures .0) (most-words (s .pre .sound)))
+    room-for _ (s .pre .sound) (c .before .before .index .ensures .0 ∙ c .before .before .before .tasks .ensures .0) (scratch-fits (s .pre .sound .tasks .1)))
     (λ c. search needs)
     (λ c. search needs)
     (λ c κs.
