@@ -113,7 +113,7 @@ module _ (b b' R R' : List ℕ) (heavier : Heavier b b') where
     coreAccesses-rise : (j y : ℕ) → j < tasks b → RiseOn b R R' y → coreAccesses b R t j y ≤ coreAccesses b' R' t' j y
     unfolding coreAccesses
     coreAccesses-rise j y h rise =
-        sumWhere-rise (λ k. eqb (core b k) y) (λ k. eqb (core b' k) y) _ _ _ _ (le-refl (j + 1))
+        sumWhere-rise (λ k. eqb (core b k) y) (λ k. eqb (core b' k) y) _ _ _ _ (le-refl _)
         (λ k l e. let here : k < tasks b = omega arith in
         (on-core k here refl e, carryIn-rise j k h here (rise k here (eqb-true (core b k) y e))))
 
@@ -153,7 +153,7 @@ module _ (b b' R R' : List ℕ) (heavier : Heavier b b') where
     ownAccesses-rise : ownAccesses b R i ≤ ownAccesses b' R' i
     unfolding ownAccesses
     ownAccesses-rise =
-        sumWhere-rise (λ k. eqb (core b k) (core b i)) (λ k. eqb (core b' k) (core b' i)) _ _ _ _ (le-refl (i + 1))
+        sumWhere-rise (λ k. eqb (core b k) (core b i)) (λ k. eqb (core b' k) (core b' i)) _ _ _ _ (le-refl _)
         (λ k h e. let l : k < tasks b = omega arith in
         (on-core k l same-core e, mul-le-mul (releases-rise k l) (le-of-eq (heavier .demands i k task l))))
 
@@ -209,7 +209,7 @@ module _ (b b' R R' : List ℕ) (heavier : Heavier b b') where
     higherWork-rise : higherWork b R i ≤ higherWork b' R' i
     unfolding higherWork
     higherWork-rise =
-        sumWhere-rise (λ k. eqb (core b k) (core b i)) (λ k. eqb (core b' k) (core b' i)) _ _ _ _ (le-refl i)
+        sumWhere-rise (λ k. eqb (core b k) (core b i)) (λ k. eqb (core b' k) (core b' i)) _ _ _ _ (le-refl _)
         (λ k h e. let l : k < tasks b = omega arith in (on-core k l same-core e, mul-le-mul (releases-rise k l) (heavier .work k l)))
 
     module _ (others : bus b < 4 → OthersRise b R R' i) where
