@@ -1,2 +1,3 @@
--- What the sums over other cores add up.
+-- The parts of a sum, and what the sums over other cores add up.
+pub mod Parts
 pub mod Terms

@@ -1,4 +1,4 @@
-// The interference of other cores on the bus, and a task's sum.
+// The interference of other cores on the bus, and a task's sum with its parts.
 use board::fields::access_cycles;
 use board::fields::refresh_cycles;
 use bus::interference;
@@ -9,23 +9,57 @@ use sums::rows::work;
 ghost use mathlib.Core.Path.{_≡_};
 ghost use Rattle.sums.specs.Sums.{taskSum};
 ghost use Rattle.sums.specs.Inputs.{SumInput};
+ghost use Rattle.interference.specs.Parts.{sumParts};
 
 mod bus;
 mod sides;
 mod slots;
 mod tables;
 
-// Sum_i at these times, from the tasks' PD and the rows D'(i, _) and D'(n, _).
+// The parts of a sum, in cycles: PD, the PD of higher tasks, the accesses of its own core, of other cores, and the one under way,
+// and the refreshes.
+pub struct SumParts {
+    pub work: u64,
+    pub higher: u64,
+    pub own: u64,
+    pub others: u64,
+    pub blocking: u64,
+    pub refresh: u64,
+}
+
+// The parts of Sum_i at these times, from the tasks' PD and the rows D'(i, _) and D'(n, _).
+pub fn task_parts(
+    board: &[u32],
+    pd: &[u32],
+    own: &[u32],
+    all: &[u32],
+    times: &[u32],
+    i: usize,
+) -> SumParts
+    requires { ⌜ SumInput (now board) (now pd) (now own) (now all) (now times) i ⌝ }
+    ensures { λ r. ⌜ r ≡ sumParts (now (board .entry)) (now (times .entry)) i ⌝ }
+{
+    let core = released(board, pd, own, times, i);
+    let s = core.accesses;
+    let others = interference(board, own, all, times, i, s);
+    let count = s + others + 1;
+    let d = wide(access_cycles(board));
+    let dr = wide(refresh_cycles(board));
+    SumParts {
+        work: work(board, pd, i),
+        higher: core.work,
+        own: s * d,
+        others: others * d,
+        blocking: d,
+        refresh: refreshes(board, times, i, count) * dr,
+    }
+}
+
+// Sum_i: its parts added up.
 pub fn task_sum(board: &[u32], pd: &[u32], own: &[u32], all: &[u32], times: &[u32], i: usize) -> u64
     requires { ⌜ SumInput (now board) (now pd) (now own) (now all) (now times) i ⌝ }
     ensures { λ r. ⌜ r ≡ taskSum (now (board .entry)) (now (times .entry)) i ⌝ }
 {
-    let core = released(board, pd, own, times, i);
-    let s = core.accesses;
-    let count = s + interference(board, own, all, times, i, s) + 1;
-    let d = wide(access_cycles(board));
-    let dr = wide(refresh_cycles(board));
-    let access = count * d;
-    let stall = refreshes(board, times, i, count) * dr;
-    work(board, pd, i) + core.work + access + stall
+    let parts = task_parts(board, pd, own, all, times, i);
+    parts.work + parts.higher + parts.own + parts.others + parts.blocking + parts.refresh
 }
