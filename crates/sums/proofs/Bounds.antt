@@ -19,7 +19,7 @@ use Rattle.figures.proofs.Overhead.{γ-bound}
 use Rattle.figures.proofs.Bounds.{taskPD-bound, taskMD-bound}
 use Rattle.sums.specs.Sums.{lowest, bound, releases, memoryDemand, overCores, window, ownAccesses, carryIn, coreAccesses, interference, busAccesses, refreshes, higherWork, taskSum}
 use Rattle.sums.specs.Limits.{latestTime, mostWork, mostDemand, mostReleases, longestWindow, mostCarryIn, mostOwnAccesses, mostHigherWork, mostAccesses, mostInterference, mostBusAccesses}
-use Rattle.sums.specs.Inputs.{Times, RowInput, releaseCost}
+use Rattle.sums.specs.Inputs.{Times, releaseCost}
 use Rattle.sums.proofs.Rising.{carry-mono}
 use Rattle.sums.proofs.Printed.{taskSum-printed}
 
@@ -39,7 +39,7 @@ work-bound b s k h = omega (arith, taskPD-bound b s k h)
 pub time-bound : (b R : List ℕ) → Sound b → Times b R → (k : ℕ) → k < tasks b → getD R k 0 ≤ latestTime
 time-bound b R s times k h = omega (arith, times .short k h, s .deadline k h .1, s .period k h .1)
 
-pub slots-bound : (b : List ℕ) → Sound b → slotsEach b ≤ 8
+slots-bound : (b : List ℕ) → Sound b → slotsEach b ≤ 8
 slots-bound b s = ⊎-elim (λ (h : 3 ≤ bus b). s .slots h .1) (λ (h : bus b < 3). omega (arith, s .noSlots h)) (le-or-lt 3 (bus b))
 
 rows-bound : (b : List ℕ) → Sound b → refreshRows b ≤ 65535
@@ -78,16 +78,26 @@ module _ (b R : List ℕ) (s : Sound b) (times : Times b R) where
     late : getD R i 0 ≤ latestTime
     late = time-bound b R s times i task
 
-    pub releases-bound : (k : ℕ) → releases b i k (getD R i 0) ≤ mostReleases
-    releases-bound k = le-trans (ceilDiv-self (getD R i 0) (period b k)) late
+    -- the releases of the tasks below n on its core, at a cost of at most m each
+    pub releaseCost-bound : (cost : ℕ → ℕ) (m n : ℕ) → n ≤ i + 1 → ((k : ℕ) → k < tasks b → cost k ≤ m)
+        → sumTo (releaseCost b R i cost) n ≤ 64 * (mostReleases * m)
+    releaseCost-bound cost m n few small =
+        where-bound n 64 (mostReleases * m) (λ k. eqb (core b k) (core b i)) _ (omega (arith, s .tasks .1))
+        (λ k h. mul-le-mul (le-trans (ceilDiv-self (getD R i 0) (period b k)) late) (small k (omega arith)))
 
     pub ownAccesses-bound : ownAccesses b R i ≤ mostOwnAccesses
     unfolding ownAccesses
-    ownAccesses-bound =
-        where-bound _ 64 (mostReleases * mostDemand) (λ k. eqb (core b k) (core b i)) _ (omega (arith, s .tasks .1))
-        (λ k h. mul-le-mul (releases-bound k) (demand-bound b s i k (omega arith)))
+    ownAccesses-bound = releaseCost-bound (memoryDemand b i) mostDemand _ (omega arith) (demand-bound b s i)
 
-    everyone-bound : (y : ℕ) → coreAccesses b R (getD R i 0) (lowest b) y ≤ mostAccesses
+    higherWork-bound : higherWork b R i ≤ mostHigherWork
+    unfolding higherWork
+    higherWork-bound = releaseCost-bound (taskPD b) mostWork _ (omega arith) (work-bound b s)
+
+    -- A(n, y)
+    abbrev A : ℕ → ℕ
+    A y = coreAccesses b R (getD R i 0) (lowest b) y
+
+    everyone-bound : (y : ℕ) → A y ≤ mostAccesses
     everyone-bound y = coreAccesses-bound (getD R i 0) late (lowest b) y (omega arith)
 
     interference-bound : (c : ℕ) → interference b R i c ≤ mostInterference
@@ -98,19 +108,12 @@ module _ (b R : List ℕ) (s : Sound b) (times : Times b R) where
           ownAccesses-bound,
           overCores-bound (λ y. not (eqb y (core b i))) (λ y. coreAccesses b R (getD R i 0) i y) (λ y. coreAccesses-bound (getD R i 0) late i y task),
         )
-    interference-bound (suc zero) =
-        omega (
-          arith,
-          ownAccesses-bound,
-          overCores-bound (λ y. ltb y (core b i)) (λ y. coreAccesses b R (getD R i 0) (lowest b) y) everyone-bound,
-        )
-    interference-bound (suc (suc zero)) =
-        omega (arith, overCores-bound (λ y. not (eqb y (core b i))) (λ y. coreAccesses b R (getD R i 0) (lowest b) y) everyone-bound)
+    interference-bound (suc zero) = omega (arith, ownAccesses-bound, overCores-bound (λ y. ltb y (core b i)) A everyone-bound)
+    interference-bound (suc (suc zero)) = omega (arith, overCores-bound (λ y. not (eqb y (core b i))) A everyone-bound)
     interference-bound (suc (suc (suc zero))) =
         omega (
           arith,
-          overCores-bound (λ y. not (eqb y (core b i))) (λ y. min (coreAccesses b R (getD R i 0) (lowest b) y) (slots b y * ownAccesses b R i))
-              (λ y. omega (arith, everyone-bound y)),
+          overCores-bound (λ y. not (eqb y (core b i))) (λ y. min (A y) (slots b y * ownAccesses b R i)) (λ y. omega (arith, everyone-bound y)),
         )
     interference-bound (suc (suc (suc (suc c)))) =
         omega (
@@ -134,12 +137,6 @@ module _ (b R : List ℕ) (s : Sound b) (times : Times b R) where
         )
     refreshes-bound (suc (suc c)) = omega (arith, busAccesses-bound)
 
-    higherWork-bound : higherWork b R i ≤ mostHigherWork
-    unfolding higherWork
-    higherWork-bound =
-        where-bound i 64 (mostReleases * mostWork) (λ k. eqb (core b k) (core b i)) _ (omega (arith, s .tasks .1))
-        (λ k h. mul-le-mul (releases-bound k) (work-bound b s k (omega arith)))
-
     pub taskSum-bound : taskSum b R i < 2 ^ 64
     taskSum-bound =
         omega (
@@ -150,11 +147,3 @@ module _ (b R : List ℕ) (s : Sound b) (times : Times b R) where
           mul-le-mul {n₁ = busAccesses b R i} {m₁ = accessCycles b} {n₂ = mostBusAccesses} {m₂ = 255} busAccesses-bound (s .access .1),
           mul-le-mul {n₁ = refreshes b R i (refresh b)} {m₁ = refreshCycles b} {n₂ = mostBusAccesses} {m₂ = 255} (refreshes-bound (refresh b)) (s .refreshCycles),
         )
-
--- ---- what code adds up on the way
-
-pub releaseCost-bound : (b row R : List ℕ) (i : ℕ) → RowInput b row R i → (cost : ℕ → ℕ) (m k : ℕ) → ((l : ℕ) → l < tasks b → cost l ≤ m) → k ≤ i
-    → sumTo (releaseCost b R i cost) k ≤ 64 * (mostReleases * m)
-releaseCost-bound b row R i h cost m k few le =
-    where-bound k 64 (mostReleases * m) (λ l. eqb (core b l) (core b i)) _ (omega (arith, h .task, h .sound .tasks .1))
-    (λ l less. mul-le-mul (releases-bound b R (h .sound) (h .times) i (h .task) l) (few l (omega (arith, h .task))))

@@ -29,12 +29,12 @@ few-accesses : (c : tie.At-loop Inv-loop μ-loop) → c .loop .sums .accesses �
 few-accesses c =
     let s = c .before .before .before .before .before in
     let h = s .pre .0 in
-    omega (arith, releaseCost-bound _ _ _ _ h _ mostDemand (c .loop .k) (demand-bound _ (h .sound) (s .args .i)) (omega arith))
+    omega (arith, releaseCost-bound _ _ (h .sound) (h .times) _ (h .task) _ mostDemand (c .loop .k) (omega arith) (demand-bound _ (h .sound) (s .args .i)))
 
 little-work : (c : tie.At-loop Inv-loop μ-loop) → c .loop .sums .work ≤ mostHigherWork
 little-work c =
     let h = c .before .before .before .before .before .pre .0 in
-    omega (arith, releaseCost-bound _ _ _ _ h _ mostWork (c .loop .k) (work-bound _ (h .sound)) (omega arith))
+    omega (arith, releaseCost-bound _ _ (h .sound) (h .times) _ (h .task) _ mostWork (c .loop .k) (omega arith) (work-bound _ (h .sound)))
 
 with-task-requires : tie.Need-with-task-requires Inv-loop μ-loop
 with-task-requires c κs =
