@@ -3,9 +3,11 @@
 use borrow.Author.Needs.{needs}
 use native.Mathlib.Omega.{arith}
 use lib.Dec.{lit<}
-use Prim.Native.Nat.{_*_, _-_, _≤_}
-use mathlib.Core.Path.{_∙_}
-use Rattle.interference.proofs.Parts.{tdma-is}
+use Prim.Native.Nat.{ℕ, _*_, _-_, _≤_}
+use mathlib.Core.List.{List}
+use mathlib.Core.Path.{_≡_, _∙_}
+use Rattle.board.specs.Layout.{cores, slotsEach}
+use Rattle.sums.specs.Sums.{ownAccesses, interference}
 use Rattle.sums.specs.Limits.{mostOwnAccesses}
 use Rattle.sums.proofs.Numbers.{product-bound, product-fits}
 use Rattle.interference.proofs.bus.tdma.Statement.{statement}
@@ -14,6 +16,10 @@ use Rattle.interference.proofs.bus.tdma.Tie as tie
 -- at most 7 other cores and 8 slots
 few : (c : tie.After-wide2) → (c .wide2 .result - 1) * c .before .before .wide .result ≤ 7 * 8
 few c = product-bound 7 8 (omega arith) (omega arith)
+
+tdma-is : (b R : List ℕ) (i : ℕ) {l v s : ℕ} → l ≡ cores b → v ≡ slotsEach b → s ≡ ownAccesses b R i → (l - 1) * v * s ≡ interference b R i 4
+unfolding interference
+tdma-is b R i l v s = cc
 
 returns : tie.Need-returns
 returns c =

@@ -1,15 +1,14 @@
 -- `interference::sides::sides` meets its contract.
 -- Assumes nothing.
 use borrow.Author.Needs.{needs}
+use native.Mathlib.Nat.{le-trans, le-of-eq}
 use native.Mathlib.Omega.{arith}
 use mathlib.Core.Bool.{Bool}
 use mathlib.Core.Path.{_≡_, sym}
 use Prim.Native.Nat.{ℕ, _+_, _-_, _≤_}
 use lib.Dec.{ltb}
-use Rattle.folds.specs.Folds.{when, sumTo}
+use Rattle.folds.specs.Folds.{sumTo}
 use Rattle.folds.proofs.Loops.{at-end}
-use Rattle.board.specs.Layout.{core}
-use Rattle.sums.specs.Sums.{carryIn}
 use Rattle.sums.specs.Limits.{mostAccesses}
 use Rattle.interference.specs.Terms.{carriedIf, carriedBy}
 use Rattle.interference.proofs.BySide.{carried-none, carried-turn}
@@ -26,57 +25,54 @@ Inv-loop board row times t x j a sums₀ k₀ sums k =
 abbrev μ-loop : tie.MeasureT-loop
 μ-loop board row times t x j a sums₀ k₀ sums k = j + 1 - k
 
--- the two tests, and the terms of a test
+-- the two tests
 abbrev below : tie.Start Inv-loop μ-loop → ℕ → Bool
 below s y = ltb y (s .args .x)
 
 abbrev beyond : tie.Start Inv-loop μ-loop → ℕ → Bool
 beyond s y = ltb (s .args .x) y
 
-abbrev terms : tie.Start Inv-loop μ-loop → (ℕ → Bool) → ℕ → ℕ
-terms s test k = carriedIf (s .args .board .now) (s .args .times .now) (s .args .t) test (s .args .j) (s .args .a) k
-
-few : (s : tie.Start Inv-loop μ-loop) (test : ℕ → Bool) (k : ℕ) {n : ℕ} → k ≤ s .args .j + 1 → n ≡ sumTo (terms s test) k → n ≤ mostAccesses
-few s test k h e =
-    omega (arith, carriedIf-bound _ _ _ _ _ (s .pre .0) (s .pre .1) test (s .args .a) k h)
-
-none : (s : tie.Start Inv-loop μ-loop) (test : ℕ → Bool) → sumTo (terms s test) (s .args .a) ≡ 0
-none s test = carried-none (s .args .board .now) (s .args .times .now) (s .args .t) test (s .args .j) (s .args .a)
-
-turn : (s : tie.Start Inv-loop μ-loop) (test : ℕ → Bool) (k : ℕ) {acc next : ℕ} → s .args .a ≤ k → acc ≡ sumTo (terms s test) k
-    → next ≡ acc + when (test (core (s .args .board .now) k)) (carryIn (s .args .board .now) (s .args .times .now) (s .args .t) (s .args .j) k)
-    → next ≡ sumTo (terms s test) (k + 1)
-turn s test k h e n = carried-turn (s .args .board .now) (s .args .times .now) (s .args .t) test (s .args .j) (s .args .a) k h e n
+few : (c : tie.At-loop Inv-loop μ-loop) → (c .loop .sums .before ≤ mostAccesses) × (c .loop .sums .after ≤ mostAccesses)
+few c =
+    let s = c .before .before .before .before in
+    let h = c .loop .inv in (
+      le-trans (le-of-eq (h .2)) (carriedIf-bound _ _ _ _ _ (s .pre .0) (s .pre .1) (below s) _ _ (h .1)),
+      le-trans (le-of-eq (h .3)) (carriedIf-bound _ _ _ _ _ (s .pre .0) (s .pre .1) (beyond s) _ _ (h .1)),
+    )
 
 loop-holds : tie.Need-loop-holds Inv-loop μ-loop
 loop-holds c =
     let s = c .before .before .before in
-    (omega arith, omega arith, sym (none s (below s)), sym (none s (beyond s)))
+    let a = s .args in (
+      omega arith,
+      omega arith,
+      sym (carried-none (a .board .now) (a .times .now) (a .t) (below s) (a .j) _),
+      sym (carried-none (a .board .now) (a .times .now) (a .t) (beyond s) (a .j) _),
+    )
 
 with-task-requires : tie.Need-with-task-requires Inv-loop μ-loop
 with-task-requires c κs =
     let s = c .before .before .before .before .before in
-    let l = c .before .loop in
-    ((s .pre .0, s .pre .1, omega (arith, s .pre .0 .task)), (few s (below s) _ (l .inv .1) (l .inv .2), few s (beyond s) _ (l .inv .1) (l .inv .3)))
+    ((s .pre .0, s .pre .1, omega (arith, s .pre .0 .task)), few (c .before))
 
 loop-again : tie.Need-loop-again Inv-loop μ-loop
 loop-again c =
     let s = c .before .before .before .before .before .before in
+    let a = s .args in
     let l = c .before .before .loop in (
       omega arith,
       omega arith,
-      turn s (below s) _ (l .inv .0) (l .inv .2) (c .with-task .ensures .0),
-      turn s (beyond s) _ (l .inv .0) (l .inv .3) (c .with-task .ensures .1),
+      carried-turn (a .board .now) (a .times .now) (a .t) (below s) (a .j) _ _ (l .inv .0) (l .inv .2) (c .with-task .ensures .0),
+      carried-turn (a .board .now) (a .times .now) (a .t) (beyond s) (a .j) _ _ (l .inv .0) (l .inv .3) (c .with-task .ensures .1),
     )
 
 returns : tie.Need-returns Inv-loop μ-loop
 unfolding carriedBy
 returns c =
-    let s = c .before .before .before .before .before in
     let l = c .before .loop in
     let end = c .loop-test .left in (
-      (at-end (sumTo _) (l .inv .2) (l .inv .1) (omega arith), few s (below s) _ (l .inv .1) (l .inv .2)),
-      (at-end (sumTo _) (l .inv .3) (l .inv .1) (omega arith), few s (beyond s) _ (l .inv .1) (l .inv .3)),
+      (at-end (sumTo _) (l .inv .2) (l .inv .1) (omega arith), few (c .before) .0),
+      (at-end (sumTo _) (l .inv .3) (l .inv .1) (omega arith), few (c .before) .1),
     )
 
 pub sides-spec : {M : Type 1} → statement M
