@@ -10,9 +10,9 @@ use lib.ListN.{getD}
 use Rattle.folds.specs.Folds.{when, sumTo, sumWhere}
 use Rattle.folds.proofs.Numbers.{when-bound}
 use Rattle.folds.proofs.Folds.{sumTo-bound}
-use Rattle.board.specs.Layout.{tasks, core}
+use Rattle.board.specs.Layout.{mostTasks, tasks, core}
 use Rattle.sums.specs.Sums.{carryIn}
-use Rattle.sums.specs.Limits.{latestTime, mostCarryIn, mostAccesses}
+use Rattle.sums.specs.Limits.{mostCores, latestTime, mostCarryIn, mostAccesses}
 use Rattle.sums.specs.Inputs.{RowInput}
 use Rattle.sums.proofs.Bounds.{where-bound, carryIn-bound}
 use Rattle.interference.specs.Terms.{carriedIf, carriedOff, carriedFrom}
@@ -24,7 +24,7 @@ module _ (b row R : List ℕ) (j t : ℕ) (h : RowInput b row R j) (early : t �
   -- any terms of at most W's bound, over the tasks up to j
   some-bound : (test : ℕ → Bool) (f : ℕ → ℕ) (m : ℕ) → m ≤ j + 1 → ((k : ℕ) → k < tasks b → f k ≤ mostCarryIn) → sumWhere test f m ≤ mostAccesses
   some-bound test f m few small =
-      where-bound m 64 mostCarryIn test f (omega (arith, h .sound .tasks .1, h .task)) (λ k l. small k (omega (arith, h .task)))
+      where-bound m mostTasks mostCarryIn test f (omega (arith, h .sound .tasks .1, h .task)) (λ k l. small k (omega (arith, h .task)))
 
   pub carriedIf-bound : (test : ℕ → Bool) (a m : ℕ) → m ≤ j + 1 → sumTo (carriedIf b R t test j a) m ≤ mostAccesses
   carriedIf-bound test a m few = some-bound (λ k. leb a k && test (core b k)) (λ k. carryIn b R t j k) m few carry
@@ -39,12 +39,12 @@ module _ (b row R : List ℕ) (j t : ℕ) (h : RowInput b row R j) (early : t �
   unfolding carriedFrom
   carriedFrom-bound x y = onCore-bound x y (j + 1) (omega arith)
 
--- the first n of eight sums, each at most its cap
-pub capped-bound : (t : List ℕ) (n : ℕ) (cap : ℕ → ℕ) → n ≤ 8 → ((y : ℕ) → y < 8 → getD t y 0 ≤ mostAccesses)
+-- the first n sums, each at most its cap
+pub capped-bound : (t : List ℕ) (n : ℕ) (cap : ℕ → ℕ) → n ≤ mostCores → ((y : ℕ) → y < mostCores → getD t y 0 ≤ mostAccesses)
     → sumTo (λ y. min (getD t y 0) (cap y)) n < 2 ^ 64
 capped-bound t n cap few small =
     omega (
       arith,
       sumTo-bound (λ y. min (getD t y 0) (cap y)) n mostAccesses (λ y l. omega (arith, small y (omega arith))),
-      mul-le-mul {n₁ = n} {m₁ = mostAccesses} {n₂ = 8} {m₂ = mostAccesses} few (le-refl _),
+      mul-le-mul {n₁ = n} {m₁ = mostAccesses} {n₂ = mostCores} {m₂ = mostAccesses} few (le-refl _),
     )

@@ -15,6 +15,7 @@ use Rattle.folds.specs.Folds.{when, sumTo}
 use Rattle.folds.proofs.Folds.{sumTo-none, sumTo-next, sumTo-cong}
 use Rattle.board.specs.Layout.{cores, slots, core}
 use Rattle.sums.specs.Sums.{lowest, ownAccesses, carryIn, coreAccesses, interference}
+use Rattle.sums.specs.Limits.{mostCores}
 use Rattle.sums.specs.Inputs.{Holds}
 use Rattle.interference.specs.Terms.{carriedFrom}
 use Rattle.interference.proofs.Cores.{when-sum}
@@ -69,7 +70,7 @@ carriedFrom-is b R t x j y =
 
 -- t, x and j are the time and the core of task i, and task n, as code computes them
 pub round-robin-is : (b R : List ℕ) (i : ℕ) (table : List ℕ) {t x j s : ℕ} → t ≡ getD R i 0 → x ≡ core b i → j ≡ lowest b
-    → Holds 8 (λ y. carriedFrom b R t x j (y + 1)) table → cores b ≤ 8 → s ≡ ownAccesses b R i
+    → Holds mostCores (λ y. carriedFrom b R t x j (y + 1)) table → cores b ≤ mostCores → s ≡ ownAccesses b R i
     → sumTo (λ y. min (getD table y 0) (slots b (y + 1) * s)) (cores b) ≡ interference b R i 3
 unfolding interference
 round-robin-is b R i table now here last h few own =

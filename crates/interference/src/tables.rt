@@ -5,7 +5,7 @@ use sums::carry::carry_in;
 ghost use mathlib.Core.Path.{_≡_};
 ghost use Prim.Native.Nat.{_+_, _<_, _≤_};
 ghost use Rattle.board.specs.Layout as at;
-ghost use Rattle.sums.specs.Limits.{latestTime};
+ghost use Rattle.sums.specs.Limits.{mostCores, latestTime};
 ghost use Rattle.sums.specs.Inputs.{Holds, RowInput};
 ghost use Rattle.interference.specs.Terms.{carriedOff, carriedFrom};
 
@@ -24,7 +24,7 @@ fn carry_off(board: &[u32], row: &[u32], times: &[u32], t: u64, x: u32, j: usize
 // The sums of W(j, k) within t cycles over the tasks up to j off core x, that of core y at y - 1.
 pub fn by_core(board: &[u32], row: &[u32], times: &[u32], t: u64, x: u32, j: usize) -> [u64; 8]
     requires { ⌜ RowInput (now board) (now row) (now times) j × (t ≤ latestTime) ⌝ }
-    ensures { λ r. ⌜ Holds 8 (λ y. carriedFrom (now (board .entry)) (now (times .entry)) t x j (y + 1)) r ⌝ }
+    ensures { λ r. ⌜ Holds mostCores (λ y. carriedFrom (now (board .entry)) (now (times .entry)) t x j (y + 1)) r ⌝ }
 {
     let mut table = [0u64; 8];
     let mut k: usize = 0;

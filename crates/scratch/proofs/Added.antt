@@ -3,7 +3,7 @@
 use Prim.Native.Nat.{ℕ, _+_, _*_, _≤_, _<_}
 use mathlib.Core.List.{List}
 use mathlib.Core.Path.{_≡_, refl, sym, ap, ap₂, _∙_}
-use native.Mathlib.Nat.{suc-mul, mul-le-mul, mul-le-mul-right}
+use native.Mathlib.Nat.{suc-mul, mul-le-mul-right}
 use native.Mathlib.Omega.{arith}
 use lib.ListN.{getD}
 use Rattle.folds.proofs.Numbers.{below-suc}
@@ -13,9 +13,6 @@ use Rattle.scratch.specs.Scratch.{RowAddable, withMD, Addable, Added}
 -- row i of n ends where n rows do, or before
 pub row-ends : {i n : ℕ} → i < n → i * n + n ≤ n * n
 row-ends {i} {n} row = omega (arith, suc-mul i n, mul-le-mul-right n row)
-
-pub square-fits : {n : ℕ} → n ≤ 64 → n * n ≤ 4096
-square-fits few = mul-le-mul few few
 
 pub added-none : {n : ℕ} {w : List ℕ} → Added n 0 w w
 added-none = record { size = refl; rows = λ i k row column. absurd (omega arith); before = λ p h. refl; after = λ p h. refl }

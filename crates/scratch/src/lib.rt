@@ -4,6 +4,7 @@ ghost use Prim.Native.Nat.{_+_, _*_, _<_, _≤_};
 ghost use lib.ListN.{length};
 ghost use Rattle.figures.specs.Survey.{Held};
 ghost use Rattle.sums.specs.Sums.{taskSum};
+ghost use Rattle.board.specs.Layout.{mostTasks};
 ghost use Rattle.sums.specs.Inputs.{Times};
 ghost use Rattle.folds.specs.Stored.{Stored};
 ghost use Rattle.scratch.specs.Scratch.{Room, RowAddable, withMD, Addable, Added, Prepared};
@@ -48,7 +49,7 @@ pub fn prepare(board: &[u32], n: usize, scratch: &mut [u32], sets: &mut [u64; 25
 
 // Where row i starts.
 fn row_at(n: usize, i: usize) -> usize
-    requires { ⌜ (n ≤ 64) × (i < n) ⌝ }
+    requires { ⌜ (n ≤ mostTasks) × (i < n) ⌝ }
     ensures { λ r. ⌜ (r ≡ 4 * n + i * n) × (r + n ≤ 4 * n + n * n) ⌝ }
 {
     4 * n + i * n

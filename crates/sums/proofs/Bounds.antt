@@ -12,13 +12,13 @@ use lib.ListN.{getD}
 use Rattle.folds.specs.Folds.{ceilDiv, sumTo, sumWhere}
 use Rattle.folds.proofs.Numbers.{le-or-lt, ceilDiv-self}
 use Rattle.folds.proofs.Folds.{sumWhere-bound}
-use Rattle.board.specs.Layout.{cores, tasks, bus, slotsEach, slots, accessCycles, refresh, refreshInterval, refreshRows, refreshCycles, core, period, deadline}
+use Rattle.board.specs.Layout.{mostTasks, mostRefreshRows, cores, tasks, bus, slotsEach, slots, accessCycles, refresh, refreshInterval, refreshRows, refreshCycles, core, period, deadline}
 use Rattle.board.specs.Sound.{Sound}
 use Rattle.figures.specs.Figures.{taskPD}
 use Rattle.figures.proofs.Overhead.{γ-bound}
 use Rattle.figures.proofs.Bounds.{taskPD-bound, taskMD-bound}
 use Rattle.sums.specs.Sums.{lowest, bound, releases, memoryDemand, overCores, window, ownAccesses, carryIn, coreAccesses, interference, busAccesses, refreshes, higherWork, taskSum}
-use Rattle.sums.specs.Limits.{latestTime, mostWork, mostDemand, mostReleases, longestWindow, mostCarryIn, mostOwnAccesses, mostHigherWork, mostAccesses, mostInterference, mostBusAccesses}
+use Rattle.sums.specs.Limits.{mostCores, mostSlots, longestAccess, latestTime, mostWork, mostDemand, mostReleases, longestWindow, mostCarryIn, mostOwnAccesses, mostHigherWork, mostAccesses, mostInterference, mostBusAccesses}
 use Rattle.sums.specs.Inputs.{Times, releaseCost}
 use Rattle.sums.proofs.Rising.{carry-mono}
 use Rattle.sums.proofs.Printed.{taskSum-printed}
@@ -39,10 +39,10 @@ work-bound b s k h = omega (arith, taskPD-bound b s k h)
 pub time-bound : (b R : List ℕ) → Sound b → Times b R → (k : ℕ) → k < tasks b → getD R k 0 ≤ latestTime
 time-bound b R s times k h = omega (arith, times .short k h, s .deadline k h .1, s .period k h .1)
 
-slots-bound : (b : List ℕ) → Sound b → slotsEach b ≤ 8
+slots-bound : (b : List ℕ) → Sound b → slotsEach b ≤ mostSlots
 slots-bound b s = ⊎-elim (λ (h : 3 ≤ bus b). s .slots h .1) (λ (h : bus b < 3). omega (arith, s .noSlots h)) (le-or-lt 3 (bus b))
 
-rows-bound : (b : List ℕ) → Sound b → refreshRows b ≤ 65535
+rows-bound : (b : List ℕ) → Sound b → refreshRows b ≤ mostRefreshRows
 rows-bound b s = ⊎-elim (λ (h : 1 ≤ refresh b). s .rows h .1) (λ (h : refresh b < 1). omega (arith, s .noRefresh h .1)) (le-or-lt 1 (refresh b))
 
 module _ (b R : List ℕ) (s : Sound b) (times : Times b R) where
@@ -66,11 +66,11 @@ module _ (b R : List ℕ) (s : Sound b) (times : Times b R) where
     pub coreAccesses-bound : (j y : ℕ) → j < tasks b → coreAccesses b R t j y ≤ mostAccesses
     unfolding coreAccesses
     coreAccesses-bound j y h =
-        where-bound (j + 1) 64 mostCarryIn (λ k. eqb (core b k) y) _ (omega (arith, s .tasks .1)) (λ k l. carryIn-bound j k (omega arith))
+        where-bound (j + 1) mostTasks mostCarryIn (λ k. eqb (core b k) y) _ (omega (arith, s .tasks .1)) (λ k l. carryIn-bound j k (omega arith))
 
   -- a sum over cores of what is at most A's bound
-  overCores-bound : (test : ℕ → Bool) (f : ℕ → ℕ) → ((y : ℕ) → f y ≤ mostAccesses) → overCores b test f ≤ 8 * mostAccesses
-  overCores-bound test f all = where-bound (cores b) 8 mostAccesses (λ y. test (y + 1)) _ (s .cores .1) (λ y h. all (y + 1))
+  overCores-bound : (test : ℕ → Bool) (f : ℕ → ℕ) → ((y : ℕ) → f y ≤ mostAccesses) → overCores b test f ≤ mostCores * mostAccesses
+  overCores-bound test f all = where-bound (cores b) mostCores mostAccesses (λ y. test (y + 1)) _ (s .cores .1) (λ y h. all (y + 1))
 
   -- ---- of task i
 
@@ -80,9 +80,9 @@ module _ (b R : List ℕ) (s : Sound b) (times : Times b R) where
 
     -- the releases of the tasks below n on its core, at a cost of at most m each
     pub releaseCost-bound : (cost : ℕ → ℕ) (m n : ℕ) → n ≤ i + 1 → ((k : ℕ) → k < tasks b → cost k ≤ m)
-        → sumTo (releaseCost b R i cost) n ≤ 64 * (mostReleases * m)
+        → sumTo (releaseCost b R i cost) n ≤ mostTasks * (mostReleases * m)
     releaseCost-bound cost m n few small =
-        where-bound n 64 (mostReleases * m) (λ k. eqb (core b k) (core b i)) _ (omega (arith, s .tasks .1))
+        where-bound n mostTasks (mostReleases * m) (λ k. eqb (core b k) (core b i)) _ (omega (arith, s .tasks .1))
         (λ k h. mul-le-mul (le-trans (ceilDiv-self (getD R i 0) (period b k)) late) (small k (omega arith)))
 
     pub ownAccesses-bound : ownAccesses b R i ≤ mostOwnAccesses
@@ -118,8 +118,8 @@ module _ (b R : List ℕ) (s : Sound b) (times : Times b R) where
     interference-bound (suc (suc (suc (suc c)))) =
         omega (
           arith,
-          mul-le-mul {n₁ = (cores b - 1) * slotsEach b} {m₁ = ownAccesses b R i} {n₂ = 7 * 8} {m₂ = mostOwnAccesses}
-              (mul-le-mul {n₁ = cores b - 1} {m₁ = slotsEach b} {n₂ = 7} {m₂ = 8} (omega (arith, s .cores .1)) (slots-bound b s)) ownAccesses-bound,
+          mul-le-mul {n₁ = (cores b - 1) * slotsEach b} {m₁ = ownAccesses b R i} {n₂ = (mostCores - 1) * mostSlots} {m₂ = mostOwnAccesses}
+              (mul-le-mul {n₁ = cores b - 1} {m₁ = slotsEach b} {n₂ = mostCores - 1} {m₂ = mostSlots} (omega (arith, s .cores .1)) (slots-bound b s)) ownAccesses-bound,
         )
 
     pub busAccesses-bound : busAccesses b R i ≤ mostBusAccesses
@@ -132,7 +132,7 @@ module _ (b R : List ℕ) (s : Sound b) (times : Times b R) where
     refreshes-bound (suc zero) =
         omega (
           arith,
-          mul-le-mul {n₁ = ceilDiv (getD R i 0) (refreshInterval b)} {m₁ = refreshRows b} {n₂ = latestTime} {m₂ = 65535}
+          mul-le-mul {n₁ = ceilDiv (getD R i 0) (refreshInterval b)} {m₁ = refreshRows b} {n₂ = latestTime} {m₂ = mostRefreshRows}
               (le-trans (ceilDiv-self (getD R i 0) (refreshInterval b)) late) (rows-bound b s),
         )
     refreshes-bound (suc (suc c)) = omega (arith, busAccesses-bound)
@@ -144,6 +144,6 @@ module _ (b R : List ℕ) (s : Sound b) (times : Times b R) where
           taskSum-printed b R i,
           work-bound b s i task,
           higherWork-bound,
-          mul-le-mul {n₁ = busAccesses b R i} {m₁ = accessCycles b} {n₂ = mostBusAccesses} {m₂ = 255} busAccesses-bound (s .access .1),
-          mul-le-mul {n₁ = refreshes b R i (refresh b)} {m₁ = refreshCycles b} {n₂ = mostBusAccesses} {m₂ = 255} (refreshes-bound (refresh b)) (s .refreshCycles),
+          mul-le-mul {n₁ = busAccesses b R i} {m₁ = accessCycles b} {n₂ = mostBusAccesses} {m₂ = longestAccess} busAccesses-bound (s .access .1),
+          mul-le-mul {n₁ = refreshes b R i (refresh b)} {m₁ = refreshCycles b} {n₂ = mostBusAccesses} {m₂ = longestAccess} (refreshes-bound (refresh b)) (s .refreshCycles),
         )

@@ -2,16 +2,27 @@
 -- 2^64 by them: proofs/Bounds.antt proves each, and a reader of the definitions can pass this file by.
 -- Assumes nothing.
 use Prim.Native.Nat.{ℕ, _+_, _*_, _^_}
+use Rattle.board.specs.Layout.{mostTasks, longest}
+
+-- ---- of a board's words
+
+-- ℓ
+abbrev pub mostCores : ℕ
+mostCores = 8
+
+-- v
+abbrev pub mostSlots : ℕ
+mostSlots = 8
+
+-- d, and dr
+abbrev pub longestAccess : ℕ
+longestAccess = 255
 
 -- ---- of one task
 
--- T and D
-abbrev pub longestPeriod : ℕ
-longestPeriod = 268435455
-
 -- a time: D + 1
 abbrev pub latestTime : ℕ
-latestTime = longestPeriod + 1
+latestTime = longest + 1
 
 -- PD of 1,024 instructions
 abbrev pub mostWork : ℕ
@@ -33,19 +44,19 @@ longestWindow = 2 * latestTime
 abbrev pub mostCarryIn : ℕ
 mostCarryIn = mostDemand * longestWindow + mostDemand
 
--- ---- of 64 tasks
+-- ---- of all tasks
 
 -- S
 abbrev pub mostOwnAccesses : ℕ
-mostOwnAccesses = 64 * (mostReleases * mostDemand)
+mostOwnAccesses = mostTasks * (mostReleases * mostDemand)
 
 -- the work of higher tasks
 abbrev pub mostHigherWork : ℕ
-mostHigherWork = 64 * (mostReleases * mostWork)
+mostHigherWork = mostTasks * (mostReleases * mostWork)
 
 -- A, L, and every other sum of W over tasks
 abbrev pub mostAccesses : ℕ
-mostAccesses = 64 * mostCarryIn
+mostAccesses = mostTasks * mostCarryIn
 
 -- ---- on the bus
 

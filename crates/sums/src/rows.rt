@@ -8,7 +8,7 @@ ghost use Rattle.board.specs.Sound.{Sound};
 ghost use Rattle.figures.specs.Figures.{taskPD};
 ghost use Rattle.sums.specs.Sums as spec;
 ghost use Rattle.sums.specs.Sums.{memoryDemand};
-ghost use Rattle.sums.specs.Limits.{longestPeriod, latestTime, mostWork, mostDemand};
+ghost use Rattle.sums.specs.Limits.{latestTime, mostWork, mostDemand};
 ghost use Rattle.sums.specs.Inputs.{Holds, Times};
 
 // PD of task k.
@@ -30,7 +30,7 @@ pub fn demand(board: &[u32], row: &[u32], j: usize, k: usize) -> u64
 // The largest time of task k that is not late.
 pub fn bound(board: &[u32], k: usize) -> u32
     requires { ⌜ (Sound (now board)) × (k < at.tasks (now board)) ⌝ }
-    ensures { λ r. ⌜ (r ≡ spec.bound (now (board .entry)) k) × (r ≤ longestPeriod) ⌝ }
+    ensures { λ r. ⌜ (r ≡ spec.bound (now (board .entry)) k) × (r ≤ at.longest) ⌝ }
 {
     board::fields::deadline(board, k)
 }

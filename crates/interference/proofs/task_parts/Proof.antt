@@ -8,7 +8,7 @@ use lib.Dec.{lit<}
 use borrow.Author.Needs.{needs}
 use Rattle.board.specs.Layout.{refresh}
 use Rattle.sums.specs.Sums.{busAccesses}
-use Rattle.sums.specs.Limits.{mostBusAccesses}
+use Rattle.sums.specs.Limits.{longestAccess, mostBusAccesses}
 use Rattle.sums.proofs.Numbers.{product-cong, product-fits}
 use Rattle.sums.proofs.Inputs.{own-row, all-row}
 use Rattle.sums.proofs.Bounds.{busAccesses-bound, refreshes-bound}
@@ -50,7 +50,7 @@ mul-refresh c =
     let s = start (counted (c .before)) in
     let h = s .pre in
     let most = refreshes-bound _ _ (h .sound) (h .times) _ (h .task) (refresh (s .args .board .now)) in
-    product-fits mostBusAccesses 255 (le-trans (le-of-eq (c .refreshes .ensures)) most) (omega arith) (lit< tt)
+    product-fits mostBusAccesses longestAccess (le-trans (le-of-eq (c .refreshes .ensures)) most) (omega arith) (lit< tt)
 
 returns : tie.Need-returns
 returns c =
@@ -67,6 +67,6 @@ task-parts-spec =
     tie.close
     (tie.spec (λ c κs. search needs) interference-requires (λ c. omega (arith, few c)) (λ c. omega (arith, few c))
     (λ c κs. search needs) (λ c κs. search needs) (λ c κs. search needs) (λ c κs. search needs) (λ c κs. search needs)
-    (λ c. product-fits mostBusAccesses 255 (omega (arith, few (counted c))) (omega arith) (lit< tt))
-    (λ c. product-fits mostBusAccesses 255 (omega (arith, few (counted c))) (omega arith) (lit< tt))
+    (λ c. product-fits mostBusAccesses longestAccess (omega (arith, few (counted c))) (omega arith) (lit< tt))
+    (λ c. product-fits mostBusAccesses longestAccess (omega (arith, few (counted c))) (omega arith) (lit< tt))
     refreshes-requires mul-refresh returns)

@@ -6,8 +6,9 @@ use native.Mathlib.Nat.{le-antisymm, suc-mul}
 use native.Mathlib.Omega.{arith}
 use denote.Ref.{now}
 use borrow.Author.Needs.{needs}
+use Rattle.board.proofs.Extents.{square-fits}
 use Rattle.scratch.specs.Scratch.{Added}
-use Rattle.scratch.proofs.Added.{row-ends, square-fits, added-none, row-addable, added-next}
+use Rattle.scratch.proofs.Added.{row-ends, added-none, row-addable, added-next}
 use Rattle.scratch.proofs.add_md.Statement.{statement}
 use Rattle.scratch.proofs.add_md.Tie as tie
 

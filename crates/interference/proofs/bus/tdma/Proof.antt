@@ -8,14 +8,13 @@ use mathlib.Core.List.{List}
 use mathlib.Core.Path.{_≡_, _∙_}
 use Rattle.board.specs.Layout.{cores, slotsEach}
 use Rattle.sums.specs.Sums.{ownAccesses, interference}
-use Rattle.sums.specs.Limits.{mostOwnAccesses}
+use Rattle.sums.specs.Limits.{mostCores, mostSlots, mostOwnAccesses}
 use Rattle.sums.proofs.Numbers.{product-bound, product-fits}
 use Rattle.interference.proofs.bus.tdma.Statement.{statement}
 use Rattle.interference.proofs.bus.tdma.Tie as tie
 
--- at most 7 other cores and 8 slots
-few : (c : tie.After-wide2) → (c .wide2 .result - 1) * c .before .before .wide .result ≤ 7 * 8
-few c = product-bound 7 8 (omega arith) (omega arith)
+few : (c : tie.After-wide2) → (c .wide2 .result - 1) * c .before .before .wide .result ≤ (mostCores - 1) * mostSlots
+few c = product-bound (mostCores - 1) mostSlots (omega arith) (omega arith)
 
 tdma-is : (b R : List ℕ) (i : ℕ) {l v s : ℕ} → l ≡ cores b → v ≡ slotsEach b → s ≡ ownAccesses b R i → (l - 1) * v * s ≡ interference b R i 4
 unfolding interference
@@ -31,5 +30,5 @@ pub tdma-spec : {M : Type 1} → statement M
 tdma-spec =
     tie.close
     (tie.spec (λ c κs. search needs) (λ c κs. search needs) (λ c κs. search needs) (λ c κs. search needs) (λ c. search needs)
-    (λ c. product-fits 7 8 (omega arith) (omega arith) (lit< tt))
-    (λ c. product-fits 56 mostOwnAccesses (few c) (omega arith) (lit< tt)) returns)
+    (λ c. product-fits (mostCores - 1) mostSlots (omega arith) (omega arith) (lit< tt))
+    (λ c. product-fits ((mostCores - 1) * mostSlots) mostOwnAccesses (few c) (omega arith) (lit< tt)) returns)

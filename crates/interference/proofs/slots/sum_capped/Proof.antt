@@ -10,7 +10,7 @@ use Rattle.folds.specs.Folds.{sumTo}
 use Rattle.folds.proofs.Folds.{sumTo-none}
 use Rattle.folds.proofs.Loops.{at-end, sumTo-turn, sumTo-fits}
 use Rattle.board.specs.Layout.{slots}
-use Rattle.sums.specs.Limits.{mostOwnAccesses}
+use Rattle.sums.specs.Limits.{mostSlots, mostOwnAccesses}
 use Rattle.sums.proofs.Numbers.{product-fits}
 use Rattle.interference.proofs.Bounds.{capped-bound}
 use Rattle.interference.proofs.slots.sum_capped.Statement.{statement}
@@ -48,6 +48,6 @@ sum-capped-spec =
     tie.close
     (tie.spec Inv-loop μ-loop (λ c κs. search needs) (λ c. (omega arith, sym (sumTo-none _))) (λ c κs. search needs)
     (λ c. search needs) (λ c κs. search needs) (λ c κs. search needs) (λ c. search needs) (λ c. search needs)
-    (λ c. product-fits 8 mostOwnAccesses (omega arith) (omega arith) (lit< tt)) (λ c κs. search needs) add-sum (λ c. search needs) (λ c. search needs)
+    (λ c. product-fits mostSlots mostOwnAccesses (omega arith) (omega arith) (lit< tt)) (λ c κs. search needs) add-sum (λ c. search needs) (λ c. search needs)
     (λ c. (omega arith, sumTo-turn _ _ (loop c .loop .inv .1) (turn c)))
     (λ c. at-end (sumTo _) (c .before .loop .inv .1) (c .before .loop .inv .0) (c .loop-test .left) ∙ ap (sumTo _) (c .before .before .cores .ensures .0)))

@@ -8,6 +8,7 @@ use mathlib.Core.Path.{ap}
 use Prim.Native.Nat.{ℕ, _+_, _-_, _≤_, _<_}
 use Rattle.folds.specs.Folds.{when, sumTo}
 use Rattle.board.specs.Layout.{core}
+use Rattle.sums.specs.Limits.{mostCores}
 use Rattle.sums.specs.Inputs.{Holds}
 use Rattle.interference.specs.Terms.{carriedOff, carriedFrom}
 use Rattle.interference.proofs.ByCore.{table-none, table-turn, table-end}
@@ -17,7 +18,7 @@ use Rattle.interference.proofs.tables.by_core.Tie as tie
 
 abbrev Inv-loop : tie.InvT-loop
 Inv-loop board row times t x j table₀ k₀ table k =
-    (k ≤ j + 1) × Holds 8 (λ y. sumTo (λ m. when (eqb (core board m) (y + 1)) (carriedOff board times t x j m)) k) table
+    (k ≤ j + 1) × Holds mostCores (λ y. sumTo (λ m. when (eqb (core board m) (y + 1)) (carriedOff board times t x j m)) k) table
 
 abbrev μ-loop : tie.MeasureT-loop
 μ-loop board row times t x j table₀ k₀ table k = j + 1 - k
@@ -30,14 +31,14 @@ abbrev term : tie.Start Inv-loop μ-loop → ℕ → ℕ → ℕ
 term s y m = when (eqb (core (s .args .board .now) m) (y + 1)) (off s m)
 
 loop-holds : tie.Need-loop-holds Inv-loop μ-loop
-loop-holds c = (omega arith, table-none (term (c .before .before .before)) 8)
+loop-holds c = (omega arith, table-none (term (c .before .before .before)) mostCores)
 
 add-table : tie.Need-add-table Inv-loop μ-loop
 add-table c =
     let s = c .before .before .before .before .before .before .before .before in
     let l = c .before .before .before .before .loop in
     let y = c .before .index .result - 1 in
-    let here : y < 8 = omega arith in
+    let here : y < mostCores = omega arith in
     omega (
       arith,
       l .inv .1 .at y here,
@@ -50,11 +51,11 @@ loop-again c =
     let s = c .before .before .before .before .before .before .before .before in
     let l = c .before .before .before .before .loop in
     let sum = ap (λ (n : ℕ). getD (l .table) (c .before .index .result - 1) 0 + n) (c .carry-off .ensures) in
-    (omega arith, table-turn (core (s .args .board .now)) (off s) 8 _ (l .inv .1) (omega arith) (omega arith) sum)
+    (omega arith, table-turn (core (s .args .board .now)) (off s) mostCores _ (l .inv .1) (omega arith) (omega arith) sum)
 
 returns : tie.Need-returns Inv-loop μ-loop
 unfolding carriedFrom
-returns c = table-end (term (c .before .before .before .before .before)) 8 (c .before .loop .inv .1) (c .before .loop .inv .0) (omega arith)
+returns c = table-end (term (c .before .before .before .before .before)) mostCores (c .before .loop .inv .1) (c .before .loop .inv .0) (omega arith)
 
 pub by-core-spec : {M : Type 1} → statement M
 by-core-spec =

@@ -5,7 +5,7 @@ use lib.Dec.{lit<}
 use native.Mathlib.Omega.{arith}
 use mathlib.Core.Path.{_∙_}
 use Rattle.sums.specs.Sums.{carryIn}
-use Rattle.sums.specs.Limits.{mostDemand}
+use Rattle.sums.specs.Limits.{longestAccess, mostDemand}
 use Rattle.sums.proofs.Windows.{carry-cong}
 use Rattle.sums.proofs.Numbers.{product-fits}
 use Rattle.sums.proofs.carry.carry_in.Statement.{statement}
@@ -24,5 +24,5 @@ pub carry-in-spec : {M : Type 1} → statement M
 carry-in-spec =
     tie.close
     (tie.spec (λ c κs. search needs) (λ c κs. search needs) (λ c κs. search needs) (λ c κs. search needs) (λ c. search needs)
-    (λ c. product-fits mostDemand 255 (omega arith) (omega arith) (lit< tt))
+    (λ c. product-fits mostDemand longestAccess (omega arith) (omega arith) (lit< tt))
     (λ c κs. search needs) (λ c κs. search needs) (λ c κs. search needs) (λ c κs. search needs) returns)

@@ -4,6 +4,7 @@ use borrow.Author.Needs.{needs}
 use native.Mathlib.Omega.{arith}
 use lib.Dec.{lit<}
 use mathlib.Core.Path.{_∙_}
+use Rattle.board.specs.Layout.{mostRefreshRows}
 use Rattle.sums.specs.Limits.{latestTime}
 use Rattle.sums.proofs.Refreshes.{burst-is}
 use Rattle.sums.proofs.Numbers.{product-fits}
@@ -20,4 +21,4 @@ pub burst-spec : {M : Type 1} → statement M
 burst-spec =
     tie.close
     (tie.spec (λ c κs. search needs) (λ c κs. search needs) (λ c κs. search needs) (λ c κs. search needs) (λ c κs. search needs) (λ c κs. search needs)
-    (λ c. product-fits latestTime 65535 (omega arith) (omega arith) (lit< tt)) returns)
+    (λ c. product-fits latestTime mostRefreshRows (omega arith) (omega arith) (lit< tt)) returns)

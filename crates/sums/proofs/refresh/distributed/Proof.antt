@@ -4,6 +4,7 @@ use borrow.Author.Needs.{needs}
 use native.Mathlib.Omega.{arith}
 use lib.Dec.{lit<}
 use mathlib.Core.Path.{_∙_}
+use Rattle.board.specs.Layout.{mostRefreshRows}
 use Rattle.sums.specs.Limits.{latestTime}
 use Rattle.sums.proofs.Refreshes.{distributed-is}
 use Rattle.sums.proofs.Numbers.{product-bound, product-fits}
@@ -22,6 +23,6 @@ pub distributed-spec : {M : Type 1} → statement M
 distributed-spec =
     tie.close
     (tie.spec (λ c κs. search needs) (λ c κs. search needs) (λ c κs. search needs) (λ c κs. search needs) (λ c κs. search needs)
-    (λ c. product-fits latestTime 65535 (omega arith) (omega arith) (lit< tt))
-    (λ c κs. omega (arith, product-bound {x = c .before .before .before .before .time .result} {y = c .wide2 .result} latestTime 65535 (omega arith) (omega arith)))
+    (λ c. product-fits latestTime mostRefreshRows (omega arith) (omega arith) (lit< tt))
+    (λ c κs. omega (arith, product-bound {x = c .before .before .before .before .time .result} {y = c .wide2 .result} latestTime mostRefreshRows (omega arith) (omega arith)))
     (λ c κs. search needs) returns)
