@@ -1,7 +1,7 @@
 -- Laws of four words as a set of numbers below 256: the words of a test, what each operation makes of them, and the count of two sets' common numbers.
 -- Assumes nothing.
 use mathlib.Core.Path.{_≡_, refl, sym, ap, ap₂, _∙_}
-use mathlib.Core.Bool.{Bool, false, not, _&&_, _||_, and-true, and-false}
+use mathlib.Core.Bool.{Bool, false, not, _&&_, _||_}
 use mathlib.Core.List.{List, [], _∷_}
 use Prim.Native.Nat.{ℕ, zero, suc, _+_, _-_, _*_, _/_, _%_, _^_, _<_}
 use native.Mathlib.Nat.{not-suc-le-zero, le-of-suc-le-suc, lt-of-le-of-lt}
@@ -14,10 +14,10 @@ use lib.ListN.{length, getD, set, length-set}
 use lib.Seq.{ext-getD, getD-set-same, getD-set-other}
 use lib.Bits.{bitAnd, bitOr, or-lt, and-le-l, and-le-r}
 use lib.Count.{ones}
-use borrow.Author.Tests.{ne-eqb, eq-eqb}
-use Rattle.folds.specs.Folds.{when, countTo}
+use borrow.Author.Tests.{ne-eqb}
+use Rattle.folds.specs.Folds.{countTo}
 use Rattle.folds.proofs.Numbers.{eqb-iff}
-use Rattle.folds.proofs.Folds.{countTo-none, countTo-cong, countTo-split, countTo-zero, countTo-but}
+use Rattle.folds.proofs.Folds.{countTo-none, countTo-cong, countTo-split}
 use Rattle.folds.proofs.Lists.{getD-set-all}
 use Rattle.bitset.specs.Bits.{bit, member, wordAt, wordsOf}
 use Rattle.bitset.proofs.Words.{bit-none, bit-or, bit-and, bit-not, oneAt, bit-oneAt, ones-count, bit-wordOf, wordOf-is, wordOf-cong}
@@ -148,23 +148,3 @@ module _ (ms ns : List ℕ) where
       → ones (bitAnd (getD ms 0 0) (getD ns 0 0)) + ones (bitAnd (getD ms 1 0) (getD ns 1 0)) + ones (bitAnd (getD ms 2 0) (getD ns 2 0))
       + ones (bitAnd (getD ms 3 0) (getD ns 3 0)) ≡ countTo (λ s. member ms s && member ns s) 256
   both-words fit = omega (arith, countTo-none both, both-next 0 (fit 0), both-next 1 (fit 1), both-next 2 (fit 2), both-next 3 (fit 3))
-
-  -- nothing in the second set
-  pub both-none : ((s : ℕ) → s < 256 → member ns s ≡ false) → countTo (λ s. member ms s && member ns s) 256 ≡ 0
-  both-none none = countTo-zero both 256 (λ s h. ap (λ (t : Bool). member ms s && t) (none s h) ∙ and-false (member ms s))
-
-  -- a number that joins the second set adds itself, where the first has it
-  pub both-insert : (s : ℕ) → s < 256 → member ns s ≡ false
-      → countTo (λ t. member ms t && member (wordsOf (λ u. eqb u s || member ns u)) t) 256 ≡ countTo (λ t. member ms t && member ns t) 256 + when (member ms s) 1
-  both-insert s h new =
-      let joined : ℕ → Bool = λ t. member ms t && member (wordsOf (λ u. eqb u s || member ns u)) t in
-      let known : (t : ℕ) → t < 256 → joined t ≡ (member ms t && (eqb t s || member ns t)) =
-      λ t l. ap (λ (b : Bool). member ms t && b) (member-wordsOf (λ u. eqb u s || member ns u) t l) in
-      let before : both s ≡ false = ap (λ (b : Bool). member ms s && b) new ∙ and-false (member ms s) in
-      let after : joined s ≡ member ms s = known s h ∙ ap (λ (b : Bool). member ms s && (b || member ns s)) (eq-eqb s s refl) ∙ and-true (member ms s) in
-      omega (
-        arith,
-        ap (λ (b : Bool). when b 1) before,
-        ap (λ (b : Bool). when b 1) after,
-        countTo-but both joined 256 s h (λ t l n. sym (known t l ∙ ap (λ (b : Bool). member ms t && (b || member ns t)) (ne-eqb t s n))),
-      )

@@ -17,25 +17,7 @@ pub fn empty() -> [u64; 4]
     [0u64; 4]
 }
 
-// The set with s in it.
-pub fn insert(set: [u64; 4], s: usize) -> [u64; 4]
-    requires { ⌜ s < 256 ⌝ }
-    ensures { λ r. ⌜ r ≡ wordsOf (λ (t : ℕ). eqb t s || member set t) ⌝ }
-{
-    let mut out = set;
-    add_to(&mut out, s);
-    out
-}
-
-// Whether s is in the set.
-pub fn contains(set: [u64; 4], s: usize) -> bool
-    requires { ⌜ s < 256 ⌝ }
-    ensures { λ r. ⌜ r ≡ member set s ⌝ }
-{
-    is_in(&set, s)
-}
-
-// The same three on a set that is lent: whether s is in it, s added, and s taken out.
+// Whether s is in a set that is lent, s added to it, and s taken out of it.
 pub fn is_in(set: &[u64], s: usize) -> bool
     requires { ⌜ (s < 256) × (length (now set) ≡ 4) ⌝ }
     ensures { λ r. ⌜ r ≡ member (now (set .entry)) s ⌝ }

@@ -125,11 +125,6 @@ unfolding maxTo
 maxTo-cong f g zero all = refl
 maxTo-cong f g (suc n) all = ap₂ max (maxTo-cong f g n (λ k h. all k (omega arith))) (all n (omega arith))
 
-pub maxTo-mono : (f g : ℕ → ℕ) (n : ℕ) → ((k : ℕ) → k < n → f k ≤ g k) → maxTo f n ≤ maxTo g n
-unfolding maxTo
-maxTo-mono f g zero all = zero-le
-maxTo-mono f g (suc n) all = omega (arith, maxTo-mono f g n (λ k h. all k (omega arith)), all n (omega arith))
-
 pub maxTo-bound : (f : ℕ → ℕ) (n m : ℕ) → ((k : ℕ) → k < n → f k ≤ m) → maxTo f n ≤ m
 unfolding maxTo
 maxTo-bound f zero m all = zero-le
@@ -184,14 +179,6 @@ pub countTo-split : (p : ℕ → Bool) (n m : ℕ) → countTo p (n + m) ≡ cou
 unfolding countTo
 countTo-split p n m = sumTo-split (λ k. when (p k) 1) n m
 
--- a count over pairs of indices
-pub countTo-pairs : (test : ℕ → Bool) (n : ℕ) → countTo test (2 * n) ≡ countTo (λ p. test (2 * p)) n + countTo (λ p. test (suc (2 * p))) n
-unfolding countTo sumTo
-countTo-pairs test zero = refl
-countTo-pairs test (suc n) =
-    let twice : 2 * suc n ≡ suc (suc (2 * n)) = omega arith in
-    omega (arith, ap (sumTo (λ k. when (test k) 1)) twice, countTo-pairs test n)
-
 pub countTo-zero : (test : ℕ → Bool) (n : ℕ) → ((k : ℕ) → k < n → test k ≡ false) → countTo test n ≡ 0
 unfolding countTo
 countTo-zero test n never = sumTo-zero (λ k. when (test k) 1) n (λ k h. ap (λ t. when t 1) (never k h))
@@ -199,12 +186,6 @@ countTo-zero test n never = sumTo-zero (λ k. when (test k) 1) n (λ k h. ap (λ
 pub countTo-first : (test : ℕ → Bool) (n : ℕ) → countTo test (suc n) ≡ when (test 0) 1 + countTo (λ k. test (suc k)) n
 unfolding countTo
 countTo-first test n = sumTo-first (λ k. when (test k) 1) n
-
-pub countTo-but : (test test' : ℕ → Bool) (n s : ℕ) → s < n → ((k : ℕ) → k < n → (k ≡ s → ⊥) → test k ≡ test' k)
-    → countTo test' n + when (test s) 1 ≡ countTo test n + when (test' s) 1
-unfolding countTo
-countTo-but test test' n s l same =
-    sumTo-but (λ k. when (test k) 1) (λ k. when (test' k) 1) n s l (λ k h ne. ap (λ t. when t 1) (same k h ne))
 
 -- ---- `anyTo`
 
