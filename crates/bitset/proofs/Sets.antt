@@ -1,10 +1,10 @@
 -- Laws of four words as a set of numbers below 256: the words of a test, what each operation makes of them, and the count of two sets' common numbers.
 -- Assumes nothing.
-use mathlib.Core.Path.{_≡_, refl, sym, ap, ap₂, _∙_}
+use mathlib.Core.Path.{_≡_, sym, ap, ap₂, _∙_}
 use mathlib.Core.Bool.{Bool, false, not, _&&_, _||_}
 use mathlib.Core.List.{List, [], _∷_}
-use Prim.Native.Nat.{ℕ, zero, suc, _+_, _-_, _*_, _/_, _%_, _^_, _<_}
-use native.Mathlib.Nat.{not-suc-le-zero, le-of-suc-le-suc, lt-of-le-of-lt}
+use Prim.Native.Nat.{ℕ, _+_, _-_, _*_, _/_, _%_, _^_, _<_}
+use native.Mathlib.Nat.{lt-of-le-of-lt}
 use native.Mathlib.Omega.{arith}
 use native.Mathlib.Decide.{ℕ-discrete}
 use mir.Syntax.{w64}
@@ -15,38 +15,31 @@ use lib.Seq.{ext-getD, getD-set-same, getD-set-other}
 use lib.Bits.{bitAnd, bitOr, or-lt, and-le-l, and-le-r}
 use lib.Count.{ones}
 use borrow.Author.Tests.{ne-eqb}
-use Rattle.folds.specs.Folds.{countTo}
+use Rattle.folds.specs.Folds.{countTo, tabulate}
 use Rattle.folds.proofs.Numbers.{eqb-iff}
 use Rattle.folds.proofs.Folds.{countTo-none, countTo-cong, countTo-split}
-use Rattle.folds.proofs.Lists.{getD-set-all}
+use Rattle.folds.proofs.Lists.{getD-set-all, length-tabulate, getD-tabulate, tabulate-cong}
 use Rattle.bitset.specs.Bits.{bit, member, wordAt, wordsOf}
 use Rattle.bitset.proofs.Words.{bit-none, bit-or, bit-and, bit-not, oneAt, bit-oneAt, ones-count, bit-wordOf, wordOf-is, wordOf-cong}
 
 -- ---- the words of a test
 
-below-four : (P : ℕ → Type 0) → P 0 → P 1 → P 2 → P 3 → (i : ℕ) → i < 4 → P i
-below-four P p q r s zero h = p
-below-four P p q r s (suc zero) h = q
-below-four P p q r s (suc (suc zero)) h = r
-below-four P p q r s (suc (suc (suc zero))) h = s
-below-four P p q r s (suc (suc (suc (suc i)))) h = absurd (not-suc-le-zero (le-of-suc-le-suc (le-of-suc-le-suc (le-of-suc-le-suc (le-of-suc-le-suc h)))))
-
 pub wordsOf-length : (test : ℕ → Bool) → length (wordsOf test) ≡ 4
 unfolding wordsOf
-wordsOf-length test = refl
+wordsOf-length test = length-tabulate (wordAt test) 0 4
 
-wordsOf-at : (test : ℕ → Bool) (i : ℕ) → i < 4 → getD (wordsOf test) i 0 ≡ wordAt test i
+pub wordsOf-at : (test : ℕ → Bool) (i : ℕ) → i < 4 → getD (wordsOf test) i 0 ≡ wordAt test i
 unfolding wordsOf
-wordsOf-at test = below-four (λ (i : ℕ). getD (wordsOf test) i 0 ≡ wordAt test i) refl refl refl refl
+wordsOf-at test i h = getD-tabulate (wordAt test) 0 4 i h
 
 wordsOf-each : (word : ℕ → ℕ) (test : ℕ → Bool) → ((i : ℕ) → i < 4 → word i ≡ wordAt test i) → (word 0 ∷ word 1 ∷ word 2 ∷ word 3 ∷ []) ≡ wordsOf test
-unfolding wordsOf
-wordsOf-each word test same = λ i. same 0 (omega arith) i ∷ same 1 (omega arith) i ∷ same 2 (omega arith) i ∷ same 3 (omega arith) i ∷ []
+unfolding wordsOf tabulate
+wordsOf-each word test same = tabulate-cong word (wordAt test) 4 same
 
 pub wordsOf-cong : (test test' : ℕ → Bool) → ((s : ℕ) → s < 256 → test s ≡ test' s) → wordsOf test ≡ wordsOf test'
 unfolding wordsOf
 wordsOf-cong test test' same =
-    wordsOf-each (wordAt test) test'
+    tabulate-cong (wordAt test) (wordAt test') 4
     (λ i h. wordOf-cong (λ j. test (64 * i + j)) (λ j. test' (64 * i + j)) 64 (λ j l. same (64 * i + j) (omega arith)))
 
 -- a number's word and its bit there

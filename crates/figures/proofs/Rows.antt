@@ -1,16 +1,14 @@
--- Laws of a row of overheads, raised task by task and copied to a table.
+-- Laws of a row of overheads, raised task by task.
 -- Assumes nothing.
 use Prim.Native.Nat.{ℕ, _+_, _*_, _≤_, _<_, max}
 use mathlib.Core.Bool.{Bool, false, true, _&&_}
 use mathlib.Core.List.{List}
 use mathlib.Core.Logic.{⊎-elim}
 use mathlib.Core.Path.{_≡_, refl, sym, ap, ap₂, _∙_}
-use native.Mathlib.Nat.{le-refl, not-suc-le-zero, mul-le-mul-right, add-mul, one-mul}
-use native.Mathlib.Decide.{ℕ-discrete}
+use native.Mathlib.Nat.{le-refl, mul-le-mul-right, add-mul, one-mul}
 use native.Mathlib.Omega.{arith}
 use lib.Dec.{eqb}
 use lib.ListN.{length, getD, set, replicate, length-replicate, getD-replicate}
-use lib.Seq.{getD-set-same, getD-set-other}
 use borrow.Author.Tests.{lt-ltb, le-ltb}
 use Rattle.folds.specs.Folds.{when, maxTo, fillTo}
 use Rattle.folds.proofs.Numbers.{le-or-lt}
@@ -19,10 +17,11 @@ use Rattle.folds.proofs.Lists.{length-fillTo, fillTo-below, fillTo-from, fillTo
 use Rattle.folds.proofs.Loops.{maxTo-turn, fillTo-turn}
 use Rattle.board.specs.Layout.{core, traceCount}
 use Rattle.trace.specs.Traces.{mostUseful}
-use Rattle.useful.specs.Records.{mostCommon}
+use Rattle.bitset.specs.Records.{mostCommon}
+use Rattle.bitset.proofs.Buffers.{mostCommon-none}
 use Rattle.figures.specs.Figures.{taskTrace}
 use Rattle.figures.specs.Overhead.{evictedBy, reloads, γ}
-use Rattle.figures.specs.Rows.{onCoreOf, raised, Copied}
+use Rattle.figures.specs.Rows.{onCoreOf, raised}
 use Rattle.figures.proofs.Overhead.{reloadsBelow}
 
 -- ---- a list filled with what stands there
@@ -41,9 +40,8 @@ raised-none f i row none = sym (fillTo-same _ row i (λ j h. omega (arith, none 
 
 -- by no records
 pub common-none : (b : List ℕ) (i : ℕ) (lives : List ℕ) (m : ℕ) (row : List ℕ) → m ≡ 0 → row ≡ raised (onCoreOf b i (λ j. mostCommon lives m (evictedBy b j))) i row
-unfolding mostCommon
 common-none b i lives m row none =
-    raised-none _ i row (λ j. when-zero (eqb (core b i) (core b j)) _ (ap (maxTo _) none ∙ maxTo-none _))
+    raised-none _ i row (λ j. when-zero (eqb (core b i) (core b j)) _ (ap (λ (k : ℕ). mostCommon lives k (evictedBy b j)) none ∙ mostCommon-none lives _))
 
 -- one word more
 pub raised-turn : (f : ℕ → ℕ) (row : List ℕ) (j : ℕ) {out : List ℕ} {v x : ℕ} → out ≡ raised f j row → x ≡ f j → v ≡ max (getD out j 0) x
@@ -132,22 +130,3 @@ row-within n m i h =
     let step : (i + 1) * n ≤ m * n = mul-le-mul-right n (let l : i + 1 ≤ m = omega arith in l) in
     let more : (i + 1) * n ≡ i * n + n = add-mul i 1 n ∙ ap (λ (x : ℕ). i * n + x) (one-mul n) in
     omega arith
-
--- ---- a row copied to a table, from word `from` on
-
-module _ (row : List ℕ) (from : ℕ) (before : List ℕ) where
-  pub copied-none : Copied row from 0 before before
-  copied-none = record { kept = λ w h. refl; copied = λ j h. absurd (not-suc-le-zero h) }
-
-  pub copied-next : (j : ℕ) (table : List ℕ) (v : ℕ) → Copied row from j before table → from + j < length table → v ≡ getD row j 0
-      → Copied row from (j + 1) before (set table (from + j) v)
-  copied-next j table v all room e = record {
-    kept = λ w h. getD-set-other table (from + j) w v 0 (λ q. omega arith) ∙ all .kept w h;
-    copied = λ k h. go k h (ℕ-discrete k j);
-  }
-    where
-      go : (k : ℕ) → k < j + 1 → Dec (k ≡ j) → getD (set table (from + j) v) (from + k) 0 ≡ getD row k 0
-      go k h (yes q) =
-          ap (λ (i : ℕ). getD (set table (from + j) v) (from + i) 0) q ∙ getD-set-same table (from + j) v 0 room ∙ e ∙ ap (λ (i : ℕ). getD row i 0) (sym q)
-      go k h (no n) =
-          getD-set-other table (from + j) (from + k) v 0 (λ q. n (omega arith)) ∙ all .copied k (let less : k < j = omega (arith, n) in less)

@@ -1,6 +1,6 @@
 -- What the functions of the walk over all tasks hand to each other: the sets evicted so far, and a row of overheads.
 -- Assumes nothing.
-use Prim.Native.Nat.{ℕ, _+_, _≤_, _<_, max}
+use Prim.Native.Nat.{ℕ, _≤_, _<_, max}
 use mathlib.Core.Bool.{Bool, _&&_}
 use mathlib.Core.List.{List}
 use mathlib.Core.Path.{_≡_}
@@ -8,8 +8,8 @@ use lib.Dec.{eqb}
 use lib.ListN.{getD}
 use Rattle.folds.specs.Folds.{when, anyTo, fillTo}
 use Rattle.bitset.specs.Bits.{wordsOf}
+use Rattle.bitset.specs.Records.{recordAt}
 use Rattle.board.specs.Layout.{core}
-use Rattle.useful.specs.Records.{recordAt}
 use Rattle.figures.specs.Figures.{evicting}
 use Rattle.figures.specs.Overhead.{evictedBy}
 
@@ -36,8 +36,3 @@ onCoreOf b i f j = when (eqb (core b i) (core b j)) (f j)
 -- the first i words of a row, each raised to f j where that is larger
 abbrev pub raised : (ℕ → ℕ) → ℕ → List ℕ → List ℕ
 raised f i row = fillTo (λ j. max (getD row j 0) (f j)) i row
-
--- a table into which the first n words of a row are written, from word `from` on; the words before stay
-pub record Copied (row : List ℕ) (from n : ℕ) (before after : List ℕ) : Type 0 where
-  pub kept : (w : ℕ) → w < from → getD after w 0 ≡ getD before w 0
-  pub copied : (j : ℕ) → j < n → getD after (from + j) 0 ≡ getD row j 0

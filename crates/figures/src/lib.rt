@@ -3,8 +3,8 @@ mod row;
 pub mod survey;
 mod traces;
 
+use bitset::records::read;
 use board::fields;
-use useful::records::read;
 ghost use mathlib.Core.Path.{_≡_};
 ghost use Prim.Native.Nat.{_<_, _≤_};
 ghost use lib.ListN.{length};

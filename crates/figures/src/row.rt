@@ -1,15 +1,15 @@
 // A row of overheads: word j has γ(i, j) of the task i at hand.
+use bitset::records::most_common;
+use bitset::records::read;
 use board::fields;
 use folds::larger;
-use useful::records::most_common;
-use useful::records::read;
 ghost use mathlib.Core.Path.{_≡_};
-ghost use Prim.Native.Nat.{ℕ, _+_, _*_, _<_, _≤_};
+ghost use Prim.Native.Nat.{ℕ, _*_, _<_, _≤_};
 ghost use lib.ListN.{length};
-ghost use Rattle.useful.specs.Records.{mostCommon};
+ghost use Rattle.bitset.specs.Records.{mostCommon};
 ghost use Rattle.figures.specs.Ready.{Ready};
 ghost use Rattle.figures.specs.Overhead.{evictedBy};
-ghost use Rattle.figures.specs.Rows.{Evicted, onCoreOf, raised, Copied};
+ghost use Rattle.figures.specs.Rows.{Evicted, onCoreOf, raised};
 
 // Raises the row by the m records of a trace of task i, for each higher task j on its core. A trace with no records raises nothing.
 pub fn raise(
@@ -44,16 +44,4 @@ fn common(board: &[u32], i: usize, j: usize, evicted: &[u64; 256], lives: &[u64]
         return 0;
     }
     most_common(lives, m, read(evicted, j))
-}
-
-// Copies the first n words of the row to the table, from word `from` on.
-pub fn copy(row: &[u32; 64], table: &mut [u32], from: usize, n: usize)
-    requires { ⌜ (n ≤ 64) × (from + n ≤ length (now table)) ⌝ }
-    ensures { λ _. ⌜ (Copied (now (row .entry)) from n (now (table .entry)) (now (table .exit))) × (length (now (table .exit)) ≡ length (now (table .entry))) ⌝ }
-{
-    let mut j: usize = 0;
-    while j < n {
-        table[from + j] = row[j];
-        j += 1;
-    }
 }

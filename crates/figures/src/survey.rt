@@ -2,13 +2,14 @@
 use super::row;
 use super::traces;
 use super::traces::Cursor;
+use bitset::records::read;
+use bitset::records::write;
 use board::MOST_SCRATCH;
 use board::fields;
 use folds::index;
 use folds::larger;
+use folds::words::copy_at;
 use trace::demand;
-use useful::records::read;
-use useful::records::write;
 ghost use mathlib.Core.Path.{_≡_};
 ghost use mathlib.Core.Bool.{true, _||_};
 ghost use Prim.Native.Nat.{ℕ, _+_, _*_, _<_, _≤_};
@@ -179,6 +180,6 @@ fn store(words: &mut [u32], n: usize, i: usize, pd: u32, md: u32, rows: bool, ro
     words[2 * n + i] = pd;
     words[3 * n + i] = md;
     if rows {
-        row::copy(row, words, 4 * n + i * n, n);
+        copy_at(n, row, words, 4 * n + i * n);
     }
 }

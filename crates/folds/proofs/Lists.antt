@@ -44,6 +44,11 @@ module _ {A : Type 0} (f : ℕ → A) (d : A) where
       (getD-at (tabulate f n) (f n) [] d n (length-tabulate n))
       i l
 
+pub tabulate-cong : {A : Type 0} (f g : ℕ → A) (n : ℕ) → ((k : ℕ) → k < n → f k ≡ g k) → tabulate f n ≡ tabulate g n
+unfolding tabulate
+tabulate-cong f g zero same = refl
+tabulate-cong f g (suc n) same = rw (tabulate-cong f g n (λ k h. same k (omega arith)), same n (omega arith))
+
 -- ---- `fillTo`
 
 module _ {A : Type 0} (f : ℕ → A) (xs : List A) where

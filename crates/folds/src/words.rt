@@ -1,8 +1,9 @@
 // Stores into the words of a lent slice.
 ghost use mathlib.Core.Path.{_≡_};
-ghost use Prim.Native.Nat.{_≤_};
+ghost use Prim.Native.Nat.{_+_, _≤_};
 ghost use lib.ListN.{length, getD};
 ghost use Rattle.folds.specs.Folds.{fillTo};
+ghost use Rattle.folds.specs.Stored.{Stored};
 
 // Sets the first n words to 0.
 pub fn clear(n: usize, words: &mut [u32])
@@ -24,6 +25,18 @@ pub fn copy(n: usize, from: &[u32], to: &mut [u32])
     let mut k = 0;
     while k < n {
         to[k] = from[k];
+        k += 1;
+    }
+}
+
+// Copies the first n words to those from `at` on.
+pub fn copy_at(n: usize, from: &[u32], to: &mut [u32], at: usize)
+    requires { ⌜ (n ≤ length (now from)) × (at + n ≤ length (now to)) ⌝ }
+    ensures { λ _. ⌜ Stored (λ k. getD (now (from .entry)) k 0) at n (now (to .entry)) (now (to .exit)) ⌝ }
+{
+    let mut k = 0;
+    while k < n {
+        to[at + k] = from[k];
         k += 1;
     }
 }

@@ -1,5 +1,4 @@
 -- The laws that join the records and the code's scans to the definitions.
-pub mod Writes
 pub mod Passing
 pub mod Recording
 pub mod Points

@@ -22,7 +22,7 @@ use Rattle.trace.specs.Traces.{Trace, useful}
 use Rattle.trace.specs.Slots.{loadAt, slotSet, loadsInto, lastSlot, usefulBefore, kept, slotMisses}
 use Rattle.trace.proofs.Scans.{into-none, firstSlot-end, firstSlot-own, useful-start, useful-next}
 use Rattle.trace.proofs.Sets.{useful-slot}
-use Rattle.useful.specs.Records.{Subset}
+use Rattle.useful.specs.Recorded.{Subset}
 use Rattle.marks.specs.Marks.{markOf, Marked, markSet, markKept, markEnds, markMisses, passed}
 use Rattle.marks.proofs.Marking.{mark-none, mark-load}
 

@@ -1,6 +1,6 @@
 -- The largest number over the records of a trace is the largest over its points.
 -- Assumes nothing.
-use Prim.Native.Nat.{ℕ, _+_, _≤_, _<_, max}
+use Prim.Native.Nat.{ℕ, _≤_, _<_}
 use mathlib.Core.Path.{_≡_, refl, ap, _∙_}
 use mathlib.Core.Bool.{Bool, true, false, _&&_, false≢true}
 use mathlib.Core.List.{List}
@@ -8,12 +8,12 @@ use mathlib.Core.Logic.{⊎-elim}
 use native.Mathlib.Nat.{le-antisymm, le-trans, le-of-eq}
 use native.Mathlib.Omega.{arith}
 use Rattle.folds.specs.Folds.{maxTo, countTo}
-use Rattle.folds.proofs.Loops.{maxTo-turn}
-use Rattle.folds.proofs.Folds.{maxTo-part, none-or-some, maxTo-none, maxTo-bound, countTo-zero, countTo-cong, countTo-subset, countTo-bound}
+use Rattle.folds.proofs.Folds.{maxTo-part, none-or-some, maxTo-bound, countTo-zero, countTo-cong, countTo-subset}
 use Rattle.bitset.specs.Bits.{member}
+use Rattle.bitset.specs.Records.{recordAt, mostCommon}
 use Rattle.bitset.proofs.Sets.{member-wordsOf}
 use Rattle.trace.specs.Traces.{Trace, useful, usefulAt, mostUseful}
-use Rattle.useful.specs.Records.{recordAt, Recorded, mostCommon}
+use Rattle.useful.specs.Recorded.{Recorded}
 
 and-subset : (a b c : Bool) → (a ≡ true → b ≡ true) → (a && c) ≡ true → (b && c) ≡ true
 and-subset true b c f e = rw (f refl) e
@@ -59,19 +59,3 @@ module _ (t : Trace) (lives : List ℕ) (m : ℕ) (all : Recorded t lives m) (te
       le-antisymm
       (maxTo-bound common m (mostUseful t test) record-is)
       (maxTo-bound (usefulAt t test) (t .len) (maxTo common m) point-is)
-
-pub mostCommon-bound : (lives : List ℕ) (m : ℕ) (test : ℕ → Bool) → mostCommon lives m test ≤ 256
-unfolding mostCommon
-mostCommon-bound lives m test = maxTo-bound _ m 256 (λ q h. countTo-bound (λ s. member (recordAt lives q) s && test s) 256)
-
--- ---- record by record
-
-pub mostCommon-none : (lives : List ℕ) (test : ℕ → Bool) → mostCommon lives 0 test ≡ 0
-unfolding mostCommon
-mostCommon-none lives test = maxTo-none _
-
--- one record more, which has n sets in common with the test
-pub mostCommon-turn : (lives : List ℕ) (q most n : ℕ) (test : ℕ → Bool) → most ≡ mostCommon lives q test
-    → n ≡ countTo (λ s. member (recordAt lives q) s && test s) 256 → max most n ≡ mostCommon lives (q + 1) test
-unfolding mostCommon
-mostCommon-turn lives q most n test e h = maxTo-turn (λ k. countTo (λ s. member (recordAt lives k) s && test s) 256) q e h

@@ -1,11 +1,10 @@
 // The memory demand, the evicting cache blocks and the useful sets of a trace, in two scans: backwards over its instructions, and forwards over
 // the marks that the first scan made of its loads.
-pub mod records;
 mod slots;
 
+use bitset::records::write_if;
 use board::fields::memory;
 use marks::mark_trace;
-use records::write_if;
 use slots::ends;
 use slots::pass_slot;
 use trace::cache::cache_of;
@@ -19,7 +18,7 @@ ghost use Rattle.board.specs.Sound.{Sound};
 ghost use Rattle.bitset.specs.Bits.{member, wordsOf};
 ghost use Rattle.trace.specs.Traces.{traceMD, evicts};
 ghost use Rattle.trace.specs.Places.{traceAt, Lies};
-ghost use Rattle.useful.specs.Records.{Recorded};
+ghost use Rattle.useful.specs.Recorded.{Recorded};
 
 // What a survey of a trace found: its bus accesses, and the number of points recorded.
 pub struct Surveyed {

@@ -10,7 +10,7 @@ ghost use Prim.Native.Nat.{_≤_};
 ghost use lib.ListN.{length};
 ghost use Rattle.folds.specs.Folds.{when};
 ghost use Rattle.bitset.specs.Bits.{member, wordsOf};
-ghost use Rattle.useful.specs.Records.{Subset};
+ghost use Rattle.useful.specs.Recorded.{Subset};
 ghost use Rattle.marks.specs.Marks.{markEnds, markMisses, passed};
 
 // What a slot did: 1 where its load missed, and whether a set came up.

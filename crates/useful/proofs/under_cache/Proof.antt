@@ -166,7 +166,7 @@ again c =
           (first .result .missed) (second .result .missed) (at .loop .inv .3) (first .ensures .1) (second .ensures .1),
       recording-turn (useful t) (at .loop .lives) (written .last .1 .0) live next (at .loop .m) (written .result) p (at .loop .fresh)
           (ends .result || ends2 .result) (first .result .came || second .result .came)
-          (omega (arith, at .loop .inv .4 .few, at .loop .inv .1, less, top at .pre .0 .4)) (at .loop .inv .2) words (written .ensures .1) (written .ensures .0)
+          (at .loop .inv .2) words (written .ensures .1) (written .ensures .0)
           (λ e. both-keep live mid next (getD (marks at) (2 * p) 0) (getD (marks at) (2 * p + 1) 0) (first .ensures .0) (second .ensures .0)
           (sym (ap₂ _||_ (ends .ensures) (ends2 .ensures)) ∙ e))
           (both-add (member live) (member mid) (member next) (first .result .came) (second .result .came) (first .ensures .2) (second .ensures .2))

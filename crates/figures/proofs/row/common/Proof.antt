@@ -10,9 +10,9 @@ use Rattle.folds.specs.Folds.{when}
 use Rattle.bitset.specs.Bits.{member}
 use Rattle.bitset.proofs.Sets.{member-wordsOf}
 use Rattle.board.specs.Layout.{core}
-use Rattle.useful.specs.Records.{mostCommon}
+use Rattle.bitset.specs.Records.{mostCommon}
 use Rattle.figures.specs.Overhead.{evictedBy}
-use Rattle.figures.proofs.Evicted.{mostCommon-cong}
+use Rattle.bitset.proofs.Buffers.{mostCommon-cong}
 use Rattle.figures.proofs.row.common.Statement.{statement}
 use Rattle.figures.proofs.row.common.Tie as tie
 

@@ -7,7 +7,7 @@ use native.Mathlib.Omega.{arith}
 use borrow.Author.Needs.{needs}
 use Rattle.folds.proofs.Lists.{fillTo-none}
 use Rattle.folds.proofs.Loops.{at-end}
-use Rattle.useful.specs.Records.{mostCommon}
+use Rattle.bitset.specs.Records.{mostCommon}
 use Rattle.figures.specs.Overhead.{evictedBy}
 use Rattle.figures.specs.Rows.{onCoreOf, raised}
 use Rattle.figures.proofs.Rows.{raised-turn, common-none}

@@ -1,5 +1,6 @@
 -- `figures::survey::store` meets its contract.
-use Prim.Native.Nat.{ℕ, _+_, _*_}
+-- Assumes nothing.
+use Prim.Native.Nat.{ℕ, _+_, _*_, _≤_}
 use mathlib.Core.Bool.{false≢true}
 use mathlib.Core.List.{List}
 use mathlib.Core.Path.{_≡_, sym, _∙_}
@@ -7,8 +8,9 @@ use denote.Ref.{now}
 use native.Mathlib.Omega.{arith}
 use borrow.Author.Needs.{needs}
 use lib.ListN.{length, set, length-set}
+use Rattle.folds.proofs.Stored.{stored-none}
 use Rattle.board.proofs.Extents.{square-fits}
-use Rattle.figures.proofs.Rows.{row-within, copied-none}
+use Rattle.figures.proofs.Rows.{row-within}
 use Rattle.figures.proofs.Held.{stored}
 use Rattle.figures.proofs.survey.store.Statement.{statement}
 use Rattle.figures.proofs.survey.store.Tie as tie
@@ -25,28 +27,25 @@ length-two c =
 second : tie.Need-slice-write-words-2
 second c = let a = c .before .args in omega (arith, length-set (now (a .words)) (2 * a .n + a .i) (a .pd))
 
-row-fits : tie.Need-mul-copy-2
-row-fits c = let start = c .before .before .before in let a = start .args in omega (arith, row-within (a .n) (a .n) (a .i) (start .pre .0), square-fits (start .pre .1))
+-- the row lies in the table, which is small
+row-fits : (s : tie.Start) → let a = s .args in (a .i * a .n + a .n ≤ a .n * a .n) × (a .n * a .n ≤ 4096)
+row-fits s = (row-within (s .args .n) (s .args .n) (s .args .i) (s .pre .0), square-fits (s .pre .1))
 
-place-fits : tie.Need-add-copy
-place-fits c = let start = c .before .before .before in let a = start .args in omega (arith, row-within (a .n) (a .n) (a .i) (start .pre .0), square-fits (start .pre .1))
-
-room : tie.Need-copy-requires
+room : tie.Need-copy-at-requires
 room c κs =
-    let start = c .before .before .before in
-    let a = start .args in
-    (start .pre .1, omega (arith, row-within (a .n) (a .n) (a .i) (start .pre .0), start .pre .3 (c .before .if1 .taken), length-two start))
+    let start = c .before .before .before .before in
+    (search needs, omega (arith, row-fits start, start .pre .3 (c .before .before .if1 .taken), length-two start))
 
 same-length : tie.Need-same-length
-same-length c = c .before .before .copy .ensures .1 ∙ length-two (c .before .before .before .before .before .before)
+same-length c = c .before .before .copy-at .ensures .size ∙ length-two (c .before .before .before .before .before .before .before)
 
 returns : tie.Need-returns
 returns c =
-    let start = c .before .before .before .before .before .before in
+    let start = c .before .before .before .before .before .before .before in
     let a = start .args in
-    let copy = c .before .before .copy in (
-      stored (a .n) (a .i) (a .pd) (a .md) (a .n) (a .rows) (now (a .row)) (now (a .words)) _ (start .pre .0) (start .pre .2) (λ e. omega arith) (copy .ensures .0),
-      copy .ensures .1 ∙ length-two start,
+    let copy = c .before .before .copy-at in (
+      stored (a .n) (a .i) (a .pd) (a .md) (a .n) (a .rows) (now (a .row)) (now (a .words)) _ (start .pre .0) (start .pre .2) (λ e. omega arith) (copy .ensures),
+      copy .ensures .size ∙ length-two start,
     )
 
 plain : tie.Need-returns-2
@@ -55,7 +54,7 @@ plain c =
     let a = start .args in (
       stored (a .n) (a .i) (a .pd) (a .md) 0 (a .rows) (now (a .row)) (now (a .words)) (two start) (start .pre .0) (start .pre .2)
           (λ e. absurd (false≢true (sym (c .if1 .left) ∙ e)))
-          (copied-none (now (a .row)) (4 * a .n + a .i * a .n) (two start)),
+          (stored-none _ (4 * a .n + a .i * a .n) (two start)),
       length-two start,
     )
 
@@ -63,4 +62,5 @@ pub store-spec : {M : Type 1} → statement M
 store-spec =
     tie.close
     (tie.spec (λ c. search needs) (λ c. search needs) (λ c. search needs) (λ c. search needs) (λ c. search needs) (λ c. search needs) (λ c. search needs)
-    second (λ c. search needs) row-fits place-fits room same-length returns (λ c. search needs) plain)
+    second (λ c. search needs) (λ c. omega (arith, row-fits (c .before .before .before .before)))
+    (λ c. omega (arith, row-fits (c .before .before .before .before))) room same-length returns (λ c. search needs) plain)

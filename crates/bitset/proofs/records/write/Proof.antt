@@ -1,13 +1,15 @@
--- `useful::records::write` meets its contract: four stores, none of which changes the length.
+-- `bitset::records::write` meets its contract: four stores, none of which changes the length.
+-- Assumes nothing.
 use native.Mathlib.Omega.{arith}
 use borrow.Author.Needs.{needs}
 use lib.ListN.{length-set}
-use Rattle.useful.proofs.records.write.Statement.{statement}
-use Rattle.useful.proofs.records.write.Tie as tie
+use Rattle.bitset.proofs.Buffers.{stored-four}
+use Rattle.bitset.proofs.records.write.Statement.{statement}
+use Rattle.bitset.proofs.records.write.Tie as tie
 
 pub write-spec : {M : Type 1} → statement M
 write-spec =
     tie.close
     (tie.spec (λ c. search needs) (λ c. search needs) (λ c. search needs) (λ c. search needs) (λ c. search needs) (λ c. search needs) (λ c. search needs)
     (λ c. simp length-set (omega arith)) (λ c. search needs) (λ c. search needs) (λ c. search needs) (λ c. simp length-set (omega arith)) (λ c. search needs)
-    (λ c. search needs) (λ c. search needs) (λ c. simp length-set (omega arith)) (λ c. search needs) (λ c. search needs))
+    (λ c. search needs) (λ c. search needs) (λ c. simp length-set (omega arith)) (λ c. search needs) (λ c. stored-four _ _ _ (omega arith)))
