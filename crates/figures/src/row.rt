@@ -21,7 +21,8 @@ pub fn raise(
     row: &mut [u32; 64],
 )
     requires { ⌜ (Ready (now board) i) × (Evicted (now board) i (now evicted)) × (4 * m ≤ length (now lives)) ⌝ }
-    ensures { λ _. ⌜ now (row .exit) ≡ raised (onCoreOf (now (board .entry)) i (λ (j : ℕ). mostCommon (now (lives .entry)) m (evictedBy (now (board .entry)) j))) i (now (row .entry)) ⌝ }
+    ensures { λ _. ⌜ now (row .exit) ≡ raised (onCoreOf (now (board .entry)) i
+        (λ (j : ℕ). mostCommon (now (lives .entry)) m (evictedBy (now (board .entry)) j))) i (now (row .entry)) ⌝ }
 {
     if m == 0 {
         return;

@@ -138,8 +138,8 @@ fn survey_trace(
     requires { ⌜ (Ready (now board) i) × (Starts (now board) (at .trace) (at .start)) × (Evicted (now board) i (now evicted)) ⌝ }
     ensures { λ r. ⌜ (r .pd ≡ tracePD (traceOf (now (board .entry)) (at .trace))) × (r .md ≡ traceMD (traceOf (now (board .entry)) (at .trace)))
         × (now (ecb .exit) ≡ wordsOf (λ (s : ℕ). member (now (ecb .entry)) s || evicts (traceOf (now (board .entry)) (at .trace)) s))
-        × (rows ≡ true → now (row .exit)
-        ≡ raised (onCoreOf (now (board .entry)) i (λ (j : ℕ). mostUseful (traceOf (now (board .entry)) (at .trace)) (evictedBy (now (board .entry)) j))) i (now (row .entry))) ⌝ }
+        × (rows ≡ true → now (row .exit) ≡ raised (onCoreOf (now (board .entry)) i
+        (λ (j : ℕ). mostUseful (traceOf (now (board .entry)) (at .trace)) (evictedBy (now (board .entry)) j))) i (now (row .entry))) ⌝ }
 {
     let len = index(fields::trace_length(board, at.trace));
     let pd = demand::pd(board, at.start, len);
@@ -175,7 +175,8 @@ fn keep(
 // Writes PD and MD of task i to their words and, with `rows`, its row.
 fn store(words: &mut [u32], n: usize, i: usize, pd: u32, md: u32, rows: bool, row: &[u32; 64])
     requires { ⌜ (i < n) × (n ≤ 64) × (4 * n ≤ length (now words)) × (rows ≡ true → scratchWords n ≤ length (now words)) ⌝ }
-    ensures { λ _. ⌜ (Written n i pd md rows (now (row .entry)) (now (words .entry)) (now (words .exit))) × (length (now (words .exit)) ≡ length (now (words .entry))) ⌝ }
+    ensures { λ _. ⌜ (Written n i pd md rows (now (row .entry)) (now (words .entry)) (now (words .exit)))
+        × (length (now (words .exit)) ≡ length (now (words .entry))) ⌝ }
 {
     words[2 * n + i] = pd;
     words[3 * n + i] = md;

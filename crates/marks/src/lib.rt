@@ -31,10 +31,12 @@ pub fn mark_trace(
     ecb: &mut [u64],
     marks: &mut [u32],
 ) -> u32
-    requires { ⌜ (Sound (now board)) × (Lies (now board) start len) × (Sets (cache .sets) (cache .inverse)) × (length (now ecb) ≡ 4) × (2 * len ≤ length (now marks)) ⌝ }
+    requires { ⌜ (Sound (now board)) × (Lies (now board) start len) × (Sets (cache .sets) (cache .inverse))
+        × (length (now ecb) ≡ 4) × (2 * len ≤ length (now marks)) ⌝ }
     ensures { λ r. ⌜ (r ≡ countTo (writes (traceAt (now (board .entry)) start len)) len)
         × (Marked (loadAt (traceAt (now (board .entry)) start len)) (cache .sets) (2 * len) (now (marks .exit)) 0)
-        × (now (ecb .exit) ≡ wordsOf (λ (s : ℕ). member (now (ecb .entry)) s || anyTo (λ (p : ℕ). touches (traceAt (now (board .entry)) start len) (cache .sets) p s) len))
+        × (now (ecb .exit) ≡ wordsOf (λ (s : ℕ). member (now (ecb .entry)) s
+        || anyTo (λ (p : ℕ). touches (traceAt (now (board .entry)) start len) (cache .sets) p s) len))
         × (length (now (marks .exit)) ≡ length (now (marks .entry))) ⌝ }
 {
     let mut first = [0u32; 256];

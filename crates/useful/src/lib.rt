@@ -36,7 +36,8 @@ pub fn survey(
     marks: &mut [u32],
     lives: &mut [u64],
 ) -> Surveyed
-    requires { ⌜ (Sound (now board)) × (Lies (now board) start len) × (length (now ecb) ≡ 4) × (2 * len ≤ length (now marks)) × (4 * len ≤ length (now lives)) ⌝ }
+    requires { ⌜ (Sound (now board)) × (Lies (now board) start len) × (length (now ecb) ≡ 4)
+        × (2 * len ≤ length (now marks)) × (4 * len ≤ length (now lives)) ⌝ }
     ensures { λ r. ⌜ (r .md ≡ traceMD (traceAt (now (board .entry)) start len))
         × (Recorded (traceAt (now (board .entry)) start len) (now (lives .exit)) (r .records))
         × (now (ecb .exit) ≡ wordsOf (λ (s : ℕ). member (now (ecb .entry)) s || evicts (traceAt (now (board .entry)) start len) s))
@@ -61,7 +62,8 @@ fn under_cache(
     marks: &mut [u32],
     lives: &mut [u64],
 ) -> Surveyed
-    requires { ⌜ (Sound (now board)) × (Lies (now board) start len) × (length (now ecb) ≡ 4) × (2 * len ≤ length (now marks)) × (4 * len ≤ length (now lives)) ⌝ }
+    requires { ⌜ (Sound (now board)) × (Lies (now board) start len) × (length (now ecb) ≡ 4)
+        × (2 * len ≤ length (now marks)) × (4 * len ≤ length (now lives)) ⌝ }
     requires { ⌜ at.memory (now board) ≡ 2 ⌝ }
     ensures { λ r. ⌜ (r .md ≡ traceMD (traceAt (now (board .entry)) start len))
         × (Recorded (traceAt (now (board .entry)) start len) (now (lives .exit)) (r .records))

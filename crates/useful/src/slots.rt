@@ -33,7 +33,8 @@ pub fn ends(live: &[u64], mark: u32) -> bool
 // Passes a slot: `live` has the useful sets before it, and then those after it.
 pub fn pass_slot(live: &mut [u64], mark: u32) -> Passed
     requires { ⌜ (mark ≤ 512) × (length (now live) ≡ 4) ⌝ }
-    ensures { λ r. ⌜ (now (live .exit) ≡ wordsOf (passed mark (member (now (live .entry))))) × (r .missed ≡ when (markMisses mark (member (now (live .entry)))) 1)
+    ensures { λ r. ⌜ (now (live .exit) ≡ wordsOf (passed mark (member (now (live .entry)))))
+        × (r .missed ≡ when (markMisses mark (member (now (live .entry)))) 1)
         × (r .came ≡ false → Subset (member (now (live .exit))) (member (now (live .entry)))) × (r .missed ≤ 1) ⌝ }
 {
     if mark == 0 {

@@ -1,4 +1,5 @@
 -- `bitset::add_to` meets its contract.
+-- Assumes nothing.
 use denote.Ref.{now}
 use borrow.Author.Needs.{needs}
 use Rattle.bitset.proofs.Sets.{insert-words}

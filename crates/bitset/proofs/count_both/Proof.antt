@@ -1,4 +1,5 @@
 -- `bitset::count_both` meets its contract: four words of at most 64 ones each.
+-- Assumes nothing.
 use borrow.Author.Needs.{needs}
 use native.Mathlib.Omega.{arith}
 use Rattle.bitset.proofs.Sets.{both-words}

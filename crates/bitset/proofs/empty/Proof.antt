@@ -1,4 +1,5 @@
 -- `bitset::empty` meets its contract.
+-- Assumes nothing.
 use Rattle.bitset.proofs.Sets.{empty-words}
 use Rattle.bitset.proofs.empty.Statement.{statement}
 use Rattle.bitset.proofs.empty.Tie as tie

@@ -1,4 +1,5 @@
 -- `bitset::is_in` meets its contract: its test is the definition of `member`.
+-- Assumes nothing.
 use mathlib.Core.Path.{refl}
 use borrow.Author.Needs.{needs}
 use Rattle.bitset.specs.Bits.{member, bit}

@@ -1,4 +1,5 @@
 -- `bitset::ones_of_both` meets its contract: the and of two words is no larger than the first, so at most 64 ones.
+-- Assumes nothing.
 use mathlib.Core.Path.{refl}
 use native.Mathlib.Nat.{lt-of-le-of-lt}
 use lib.Bits.{and-le-l}

@@ -1,4 +1,5 @@
 -- `bitset::take_from` meets its contract.
+-- Assumes nothing.
 use denote.Ref.{now}
 use borrow.Author.Needs.{needs}
 use Rattle.bitset.proofs.Sets.{remove-words}

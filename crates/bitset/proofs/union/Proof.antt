@@ -1,4 +1,5 @@
 -- `bitset::union` meets its contract.
+-- Assumes nothing.
 use borrow.Author.Needs.{needs}
 use Rattle.bitset.proofs.Sets.{union-words}
 use Rattle.bitset.proofs.union.Statement.{statement}

@@ -1,4 +1,5 @@
 -- `figures::figure_at` meets its contract, field by field.
+-- Assumes nothing.
 use mathlib.Core.Path.{_∙_}
 use borrow.Author.Needs.{needs}
 use denote.Ref.{now}

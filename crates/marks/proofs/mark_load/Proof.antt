@@ -1,4 +1,5 @@
 -- `marks::mark_load` meets its contract.
+-- Assumes nothing.
 use borrow.Author.Needs.{needs}
 use Prim.Native.Nat.{ℕ}
 use mathlib.Core.Bool.{_||_}

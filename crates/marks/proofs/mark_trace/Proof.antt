@@ -1,5 +1,6 @@
 -- `marks::mark_trace` meets its contract. The invariant: the slots of the instructions from p on have their marks, and the writes and the
 -- touched sets of those before p are still to be added.
+-- Assumes nothing.
 use borrow.Author.Needs.{needs}
 use Prim.Native.Nat.{ℕ, _+_, _-_, _*_, _≤_}
 use mathlib.Core.Path.{_≡_, refl, sym, ap, subst, _∙_}

@@ -1,4 +1,4 @@
--- `board::or_else` meets its contract: each arm is its variant's case of `_orElse_`.
+-- `refusals::or_else` meets its contract: each arm is its variant's case of `_orElse_`.
 -- Assumes nothing.
 use mathlib.Core.Path.{sym, ap}
 use borrow.Author.Needs.{needs}

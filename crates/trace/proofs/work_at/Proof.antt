@@ -1,4 +1,5 @@
 -- `trace::work_at` meets its contract.
+-- Assumes nothing.
 use borrow.Author.Needs.{needs}
 use Rattle.trace.proofs.work_at.Statement.{statement}
 use Rattle.trace.proofs.work_at.Tie as tie

@@ -1,4 +1,5 @@
 -- `useful::survey` meets its contract: without a cache nothing is evicted or useful.
+-- Assumes nothing.
 use borrow.Author.Needs.{needs}
 use mathlib.Core.Path.{_≡_, refl}
 use native.Mathlib.Omega.{arith}

@@ -1,5 +1,6 @@
 -- `useful::under_cache` meets its contract. The invariant: `live` has the useful sets of point p, `missed` counts the misses before it, and the
 -- records stand for the points up to it.
+-- Assumes nothing.
 use borrow.Author.Needs.{needs}
 use Prim.Native.Nat.{ℕ, _+_, _-_, _*_, _≤_, _<_}
 use mathlib.Core.Bool.{_||_}

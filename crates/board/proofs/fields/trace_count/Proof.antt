@@ -1,7 +1,14 @@
+-- `board::fields::trace_count` meets its contract: a sound board has the word, in its range.
+-- Assumes nothing.
 use native.Mathlib.Omega.{arith}
 use borrow.Author.Needs.{needs}
 use Rattle.board.proofs.fields.trace_count.Statement.{statement}
 use Rattle.board.proofs.fields.trace_count.Tie as tie
 
 pub trace-count-spec : {M : Type 1} → statement M
-trace-count-spec = tie.close (tie.spec (λ c κs. search needs) (λ c. let s = c .before .before in let range = s .pre .0 .traceCount _ (s .pre .1) in (c .task-word .ensures, (omega arith, omega arith))))
+trace-count-spec =
+    tie.close
+    (tie.spec (λ c κs. search needs)
+    (λ c. let s = c .before .before in
+    let range = s .pre .0 .traceCount _ (s .pre .1) in
+    (c .task-word .ensures, (omega arith, omega arith))))

@@ -1,3 +1,5 @@
+-- `board::fields::trace_length` meets its contract: a sound board has the word, in its range.
+-- Assumes nothing.
 use borrow.Author.Needs.{needs}
 use mathlib.Core.Path.{refl}
 use Rattle.board.proofs.fields.trace_length.Statement.{statement}

@@ -1,4 +1,5 @@
 -- `figures::row::common` meets its contract.
+-- Assumes nothing.
 use mathlib.Core.Bool.{Bool}
 use mathlib.Core.List.{List}
 use mathlib.Core.Path.{sym, ap, _∙_}

@@ -1,4 +1,5 @@
 -- `figures::row::raise` meets its contract. The invariant: the row raised up to task j.
+-- Assumes nothing.
 use Prim.Native.Nat.{ℕ, _-_, _≤_}
 use mathlib.Core.List.{List}
 use mathlib.Core.Path.{_≡_, sym}

@@ -1,4 +1,5 @@
 -- `figures::survey::keep` meets its contract.
+-- Assumes nothing.
 use mathlib.Core.Bool.{_||_}
 use mathlib.Core.Path.{_≡_, ap, _∙_}
 use denote.Ref.{now}

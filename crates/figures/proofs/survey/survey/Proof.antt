@@ -1,4 +1,5 @@
 -- `figures::survey::survey` meets its contract. The invariant: the figures, the sets evicted and the rows of the tasks passed.
+-- Assumes nothing.
 use Prim.Native.Nat.{ℕ, _+_, _*_, _-_, _≤_, _<_}
 use mathlib.Core.Bool.{true}
 use mathlib.Core.Path.{_≡_, sym, subst₂, _∙_}

@@ -1,4 +1,5 @@
 -- `figures::survey::survey_task` meets its contract. The invariant: what the traces passed have.
+-- Assumes nothing.
 use Prim.Native.Nat.{_-_, _≤_}
 use mathlib.Core.Path.{_≡_}
 use denote.Ref.{now}

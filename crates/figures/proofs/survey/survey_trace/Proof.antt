@@ -1,4 +1,5 @@
 -- `figures::survey::survey_trace` meets its contract.
+-- Assumes nothing.
 use Prim.Native.Nat.{ℕ, max}
 use mathlib.Core.Bool.{_||_, false≢true}
 use mathlib.Core.Path.{_≡_, sym, ap, _∙_}

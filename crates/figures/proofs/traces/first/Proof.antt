@@ -1,4 +1,5 @@
 -- `figures::traces::first` meets its contract.
+-- Assumes nothing.
 use native.Mathlib.Omega.{arith}
 use borrow.Author.Needs.{needs}
 use Rattle.figures.proofs.Starts.{at-begin}

@@ -1,4 +1,5 @@
 -- `figures::traces::next` meets its contract.
+-- Assumes nothing.
 use mathlib.Core.Path.{refl}
 use denote.Ref.{now}
 use native.Mathlib.Omega.{arith}

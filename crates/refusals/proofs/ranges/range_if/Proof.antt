@@ -1,4 +1,4 @@
--- `board::ranges::range_if` meets its contract.
+-- `refusals::ranges::range_if` meets its contract.
 -- Assumes nothing.
 use borrow.Author.Needs.{needs}
 use Rattle.refusals.proofs.ranges.range_if.Statement.{statement}

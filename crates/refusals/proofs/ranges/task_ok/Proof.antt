@@ -1,4 +1,4 @@
--- `board::ranges::task_ok` meets its contract: in each arm the word's field is known, and its row of `taskRanges` is the arm's test.
+-- `refusals::ranges::task_ok` meets its contract: in each arm the word's field is known, and its row of `taskRanges` is the arm's test.
 -- Assumes nothing.
 use mathlib.Core.Path.{_∙_}
 use borrow.Author.Needs.{needs}
@@ -22,13 +22,8 @@ task-ok-spec =
     (λ c. search needs)
     (λ c κs. search needs)
     (λ c κs. search needs)
-    (λ c. let a = c .before .before .before .before .before .args in
-    c .within .ensures ∙ taskRow (a .board .now) (a .i) (c .before .before .match .keys1))
-    (λ c. let a = c .before .before .before .before .args in
-    c .within2 .ensures ∙ taskRow (a .board .now) (a .i) (c .before .match .keys2))
-    (λ c. let a = c .before .before .before .before .before .args in
-    c .within3 .ensures ∙ taskRow (a .board .now) (a .i) (c .before .before .match .keys3))
-    (λ c. let a = c .before .before .before .before .args in
-    c .within4 .ensures ∙ taskRow (a .board .now) (a .i) (c .before .match .keys4))
-    (λ c. let a = c .before .before .before .args in
-    taskSpare (a .board .now) (a .i) (avoids _ 4 (c .match .rest))))
+    (λ c. c .within .ensures ∙ taskRow _ _ (c .before .before .match .keys1))
+    (λ c. c .within2 .ensures ∙ taskRow _ _ (c .before .match .keys2))
+    (λ c. c .within3 .ensures ∙ taskRow _ _ (c .before .before .match .keys3))
+    (λ c. c .within4 .ensures ∙ taskRow _ _ (c .before .match .keys4))
+    (λ c. taskSpare _ _ (avoids _ 4 (c .match .rest))))

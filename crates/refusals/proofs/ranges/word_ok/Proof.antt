@@ -1,4 +1,4 @@
--- `board::ranges::word_ok` meets its contract: each arm is its part's case of `wordOk`.
+-- `refusals::ranges::word_ok` meets its contract: each arm is its part's case of `wordOk`.
 -- Assumes nothing.
 use mathlib.Core.Path.{_∙_}
 use borrow.Author.Needs.{needs}
@@ -23,13 +23,8 @@ word-ok-spec =
     (λ c. search needs)
     (λ c. search needs)
     (λ c κs. search needs)
-    (λ c. let a = c .before .before .before .before .args in
-    c .header-ok .ensures ∙ partRow (a .board .now) (a .i) (c .before .enum-told .given .1))
-    (λ c. let a = c .before .before .before .before .args in
-    c .task-ok .ensures ∙ partRow (a .board .now) (a .i) (c .before .enum-told2 .given .1))
-    (λ c. let a = c .before .before .before .before .before .args in
-    c .within .ensures ∙ partRow (a .board .now) (a .i) (c .before .before .enum-told3 .given .1))
-    (λ c. let a = c .before .before .before .before .args in
-    partRow (a .board .now) (a .i) (c .before .enum-told4 .given .1))
-    (λ c. let a = c .before .before .before .before .args in
-    c .work-ok .ensures ∙ partRow (a .board .now) (a .i) (c .before .enum-told5 .given .1)))
+    (λ c. c .header-ok .ensures ∙ partRow _ _ (c .before .enum-told .given .1))
+    (λ c. c .task-ok .ensures ∙ partRow _ _ (c .before .enum-told2 .given .1))
+    (λ c. c .within .ensures ∙ partRow _ _ (c .before .before .enum-told3 .given .1))
+    (λ c. partRow _ _ (c .before .enum-told4 .given .1))
+    (λ c. c .work-ok .ensures ∙ partRow _ _ (c .before .enum-told5 .given .1)))

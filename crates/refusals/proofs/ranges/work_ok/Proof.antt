@@ -1,4 +1,4 @@
--- `board::ranges::work_ok` meets its contract: the arm of the kind says which case of `workOk` holds.
+-- `refusals::ranges::work_ok` meets its contract: the arm of the kind says which case of `workOk` holds.
 -- Assumes nothing.
 use native.Mathlib.Nat.{le-of-suc-le-suc}
 use borrow.Author.Needs.{needs}

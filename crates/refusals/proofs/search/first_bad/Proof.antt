@@ -1,4 +1,4 @@
--- `board::search::first_bad` meets its contract. The loop's invariant: what is to be found is what is found from here on.
+-- `refusals::search::first_bad` meets its contract. The loop's invariant: what is to be found is what is found from here on.
 -- Assumes nothing.
 use Prim.Native.Nat.{_-_}
 use mathlib.Core.Path.{_≡_, refl, sym, _∙_}

@@ -1,4 +1,4 @@
--- `board::search::sum_words` meets its contract. The loop's invariant: the sum so far, and that it is small.
+-- `refusals::search::sum_words` meets its contract. The loop's invariant: the sum so far, and that it is small.
 -- Assumes nothing.
 use Prim.Native.Nat.{_+_, _*_, _-_, _≤_}
 use mathlib.Core.Path.{_≡_, sym}

@@ -1,4 +1,5 @@
 -- `trace::cache::set_of` meets its contract: the product with the reciprocal gives the quotient, and so the remainder.
+-- Assumes nothing.
 use borrow.Author.Needs.{needs}
 use Prim.Native.Nat.{ℕ, _%_, _<_}
 use mathlib.Core.Path.{ap, subst, sym, _∙_}

@@ -1,4 +1,5 @@
 -- `trace::demand::accesses_past` meets its contract. The invariant: n sums the bus accesses of the instructions passed.
+-- Assumes nothing.
 use borrow.Author.Needs.{needs}
 use Prim.Native.Nat.{_*_, _-_, _≤_}
 use mathlib.Core.Path.{_≡_, sym}

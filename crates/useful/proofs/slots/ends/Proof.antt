@@ -1,4 +1,5 @@
 -- `useful::slots::ends` meets its contract.
+-- Assumes nothing.
 use borrow.Author.Needs.{needs}
 use borrow.Author.Tests.{eq-eqb, ne-eqb}
 use mathlib.Core.Bool.{Bool, not, _&&_}
