@@ -1,4 +1,4 @@
--- The call of `figures::fill` by a public call, at a number of records that a covered function has counted, with their figures in the words w and
+-- The call of `table::fill` by a public call, at a number of records that a covered function has counted, with their figures in the words w and
 -- the sets e.
 --     verdict-makes, verdict-typed    a verdict owns nothing, so that it can be handed on again, and its values have its MIR type
 --     Counted v r        r is the number of records that the verdict v allows; their figures are held, and the table has room for them
@@ -41,7 +41,7 @@ use Rattle.figures.specs.declared.Figure.{Figure}
 use Rattle.figures.specs.Figures.{figureOf}
 use Rattle.figures.specs.Survey.{Fillable}
 use Rattle.figures.proofs.Figure as T
-use Rattle.figures.proofs.fill as fill
+use Rattle.table.proofs.fill as fill
 use Rattle.answers.specs.Answers.{tableAfter}
 use Rattle.answers.specs.Records.{recordsOf}
 use Rattle.analysis.proofs.Steps.{val, pointer}

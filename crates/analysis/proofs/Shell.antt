@@ -74,8 +74,8 @@ use Rattle.refusals.proofs.Verdict.Laws as Y′
 use Rattle.figures.specs.declared.Figure.{Figure}
 use Rattle.figures.proofs.Figure as T
 use Rattle.figures.proofs.Figure.Laws as T′
-use Rattle.figures.proofs.fill as fill
-use Rattle.figures.proofs.fill.Symbol.{name as #figures·fill}
+use Rattle.table.proofs.fill as fill
+use Rattle.table.proofs.fill.Symbol.{name as #table·fill}
 use Rattle.answers.specs.Answers.{tableAfter, ScratchAfter}
 use Rattle.answers.specs.Begun.{Begun}
 use Rattle.answers.proofs.Outcomes.{records-room}
@@ -250,7 +250,7 @@ module _ (S : RattleType) (xs : List Extra) (Refuse : List ℕ → ℕ → ℕ �
           (seq (assign (place (count xs + 20) []) (addrOf (place (count xs + 7) [])))
           (seq (assign (place (count xs + 21) []) (addrOf (place 4 (field 0 ∷ deref T′.mir ∷ []))))
           (seq (assign (place (count xs + 22) []) (aggregate (copy (place (count xs + 21) []) ∷ copy (place 4 (field 1 ∷ [])) ∷ [])))
-          (seq (call #figures·fill (copy (place 1 []) ∷ copy (place (count xs + 8) []) ∷ copy (place (count xs + 19) []) ∷ copy (place (count xs + 20) []) ∷ copy (place (count xs + 22) []) ∷ []) (place (count xs + 17) []))
+          (seq (call #table·fill (copy (place 1 []) ∷ copy (place (count xs + 8) []) ∷ copy (place (count xs + 19) []) ∷ copy (place (count xs + 20) []) ∷ copy (place (count xs + 22) []) ∷ []) (place (count xs + 17) []))
           (seq (assign (place (count xs + 23) []) (addrOf (place 2 (field 0 ∷ deref (tyInt w32) ∷ []))))
           (seq (assign (place (count xs + 24) []) (aggregate (copy (place (count xs + 23) []) ∷ copy (place 2 (field 1 ∷ [])) ∷ [])))
           (seq (assign (place (count xs + 25) []) (addrOf (place 3 (field 0 ∷ deref (tyInt w32) ∷ []))))
@@ -451,7 +451,7 @@ module _ (S : RattleType) (xs : List Extra) (Refuse : List ℕ → ℕ → ℕ �
         extras {K} {Γ} {E} {os} t loads = subst (λ (us : List Val). Opds K W Γ E os us) (sym (flat-passed n at κs xs e)) loads
 
       module _ (C : Calls 𝓤 H) (Λ : Loops 𝓤 H) (fm : FmC 𝓤 H (W .laws) C) (known-check : Triple 𝓤 (C #check) (Checks 𝓤 H A)) (known-begin : Triple 𝓤 (C #begin) (Begins 𝓤 H A))
-          (known-fill : Triple 𝓤 (C #figures·fill) (Fills 𝓤 H A at-mem run)) (known-rest : Triple 𝓤 (C #rest) (Rests 𝓤 H A)) where
+          (known-fill : Triple 𝓤 (C #table·fill) (Fills 𝓤 H A at-mem run)) (known-rest : Triple 𝓤 (C #rest) (Rests 𝓤 H A)) where
         walk : ent 𝓤 (onEntry 𝓤 H A (ended .signature) κs (q₀, (q₁, (q₂, (q₃, tt)))) a vals) (WpFn 𝓤 H C Λ function (val b ∷ val t ∷ val s ∷ val f ∷ machines xs e) Post)
         walk =
             qed W ((‵ (flft κ₀ q₀) ⊛ ‵ (flft κ₁ q₁) ⊛ ‵ (flft κ₂ q₂) ⊛ ‵ (flft κ₃ q₃) ⊛ ‵ ftrue)
@@ -534,7 +534,7 @@ module _ (S : RattleType) (xs : List Extra) (Refuse : List ℕ → ℕ → ℕ �
             free0 ! $ keep ! (3 ∷ 2 ∷ 1 ∷ 0 ∷ 7 ∷ 4 ∷ 5 ∷ 6 ∷ 8 ∷ 9 ∷ []) $ by ! (exits v n r u₃ ms ws es ts ss fs j e₁ e₂ e₃ len-t (len-s ∙ len-m) len-f))))))))))))))))))))))))))))))))))))))))))))))))))))))))))))))))))
 
     module _ {M : Type 1} (𝓤 : URA M) (H : Heap 𝓤) (A : Atoms 𝓤) (W : Given 𝓤 H A) (at-mem : Memory → SProp 𝓤) (run : Routine → Fun 𝓤) (𝓣 : Tables 𝓤 H)
-        (known-check : Triple 𝓤 (𝓣 .C #check) (Checks 𝓤 H A)) (known-begin : Triple 𝓤 (𝓣 .C #begin) (Begins 𝓤 H A)) (known-fill : Triple 𝓤 (𝓣 .C #figures·fill) (Fills 𝓤 H A at-mem run))
+        (known-check : Triple 𝓤 (𝓣 .C #check) (Checks 𝓤 H A)) (known-begin : Triple 𝓤 (𝓣 .C #begin) (Begins 𝓤 H A)) (known-fill : Triple 𝓤 (𝓣 .C #table·fill) (Fills 𝓤 H A at-mem run))
         (known-rest : Triple 𝓤 (𝓣 .C #rest) (Rests 𝓤 H A)) where
       walks : Walks 𝓤 H A ended stayed (WpFn 𝓤 H (𝓣 .C) (𝓣 .Λ) function) (clauses 𝓤)
       walks = walked 𝓤 H A ended stayed (clauses 𝓤) (WpFn 𝓤 H (𝓣 .C) (𝓣 .Λ) function)

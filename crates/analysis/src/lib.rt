@@ -35,7 +35,7 @@ pub fn analyse(
     let mut words = [0u32; 256];
     let mut sets = [0u64; 256];
     let n = begin(board, verdict, scratch, &mut words, &mut sets);
-    figures::fill(board, n, &words, &sets, table);
+    table::fill(board, n, &words, &sets, table);
     finish(board, verdict, times, scratch)
 }
 
@@ -61,7 +61,7 @@ pub fn figures(board: &[u32], table: &mut [figures::Figure]) -> Outcome
     let mut words = [0u32; 256];
     let mut sets = [0u64; 256];
     let n = begin_figures(board, verdict, &mut words, &mut sets);
-    figures::fill(board, n, &words, &sets, table);
+    table::fill(board, n, &words, &sets, table);
     finish_figures(verdict, n)
 }
 

@@ -8,4 +8,3 @@ pub mod Passed
 pub mod Held
 pub mod Fillable
 pub mod Bounds
-pub mod Bytes

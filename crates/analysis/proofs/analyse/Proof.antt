@@ -9,9 +9,9 @@ use contract.Running.{givenOf, tables, tablesOf}
 use denote.Enum.Laws as EL
 use denote.Triple.Spec.{tripleOf}
 use denote.Triple.Table.{entered, cited}
-use Rattle.figures.proofs.fill.Symbol as fill-def
-use Rattle.figures.proofs.fill.Symbol.{name as #figures·fill}
-use Rattle.figures.proofs.fill.Met as fill-thm
+use Rattle.table.proofs.fill.Symbol as fill-def
+use Rattle.table.proofs.fill.Symbol.{name as #table·fill}
+use Rattle.table.proofs.fill.Met as fill-thm
 use Rattle.board.specs.Layout.{tasks, passLimit}
 use Rattle.refusals.specs.declared.Verdict.{Verdict}
 use Rattle.refusals.specs.declared.Verdict.the-variants.{Passed}
@@ -80,5 +80,5 @@ analyse-spec 𝓤 H 𝓜 𝓖 𝓡 =
     (λ b old scratch table e r new is h passed. demand3-met b old scratch table passed r new is h) 𝓤 H (𝓖 .A) (givenOf 𝓤 H 𝓜 𝓖) (𝓜 .mem) (𝓡 .run) (tablesOf 𝓤 H 𝓜 (tables 𝓤 H 𝓜 𝓡 code.env))
     (cited 𝓤 H (Checks S.the-row [] refuse give after Claim Start Ready Need 𝓤 H (𝓖 .A)) 𝓜 𝓡 code.env #calls·check-analyse check-def.routine code.calls-calls·check-analyse (check-thm.met 𝓤 H 𝓜 𝓖 𝓡))
     (cited 𝓤 H (Begins S.the-row [] refuse give after Claim Start Ready Need 𝓤 H (𝓖 .A)) 𝓜 𝓡 code.env #answers·begin begin-def.routine code.calls-answers·begin (begin-thm.met 𝓤 H 𝓜 𝓖 𝓡))
-    (cited 𝓤 H (Fills 𝓤 H (𝓖 .A) (𝓜 .mem) (𝓡 .run)) 𝓜 𝓡 code.env #figures·fill fill-def.routine code.calls-figures·fill (fill-thm.met 𝓤 H 𝓜 𝓖 𝓡))
+    (cited 𝓤 H (Fills 𝓤 H (𝓖 .A) (𝓜 .mem) (𝓡 .run)) 𝓜 𝓡 code.env #table·fill fill-def.routine code.calls-table·fill (fill-thm.met 𝓤 H 𝓜 𝓖 𝓡))
     (cited 𝓤 H (Rests S.the-row [] refuse give after Claim Start Ready Need 𝓤 H (𝓖 .A)) 𝓜 𝓡 code.env #answers·finish finish-def.routine code.calls-answers·finish (finish-thm.met 𝓤 H 𝓜 𝓖 𝓡)))

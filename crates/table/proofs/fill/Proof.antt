@@ -1,4 +1,4 @@
--- `figures::fill` meets its contract: a walk of its MIR. The table's borrow is opened once, before the loop, and closed once, after it. A turn
+-- `table::fill` meets its contract: a walk of its MIR. The table's borrow is opened once, before the loop, and closed once, after it. A turn
 -- calls `figure_at` on the board, the words and the sets, whose references are Copy, and stores the record. The variant is the number of
 -- records filled, with the fact that it is at most n. All that the proof knows of `figure_at` is that it meets its contract.
 -- Assumes nothing.
@@ -53,21 +53,21 @@ use denote.Triple.Walked.{says, needs, Stays, stay-slice, stay-none, stay-none-r
 use denote.Exit.{yes}
 use Rattle.folds.specs.Folds.{fillTo}
 use Rattle.folds.proofs.Lists.{fillTo-none, fillTo-next, length-fillTo}
 use Rattle.figures.specs.Figures.{figureOf}
 use Rattle.figures.specs.Survey.{Fillable}
 use Rattle.figures.specs.declared.Figure.{Figure}
-use Rattle.figures.proofs.Bytes.{bytes-below}
+use Rattle.table.proofs.Bytes.{bytes-below}
 use Rattle.figures.proofs.Figure as T
 use Rattle.figures.proofs.Figure.Laws as T′
 use Rattle.figures.proofs.figure_at as figure-at
 use Rattle.figures.proofs.figure_at.Symbol as figure-at-def
 use Rattle.figures.proofs.figure_at.Symbol.{name as #figures·figure-at}
 use Rattle.figures.proofs.figure_at.Met as figure-at-thm
-use Rattle.figures.proofs.fill.Key.{name as #figures·fill}
-use Rattle.figures.proofs.fill as fill′
-use Rattle.figures.proofs.fill.Statement as stated
-use Rattle.figures.proofs.fill.Code as code
-use Rattle.figures.proofs.fill.Code.Mir as body
+use Rattle.table.proofs.fill.Key.{name as #table·fill}
+use Rattle.table.proofs.fill as fill′
+use Rattle.table.proofs.fill.Statement as stated
+use Rattle.table.proofs.fill.Code as code
+use Rattle.table.proofs.fill.Code.Mir as body
 
 abbrev stayed : Stays (fill′.ended .signature .params) (fill′.ended .kept)
 stayed = (
@@ -352,6 +352,6 @@ pub fill-spec : {M : Type 1} → stated.statement M
 unfolding code.routine tablesOf
 fill-spec 𝓤 H 𝓜 𝓖 𝓡 =
     entered 𝓤 H (tripleOf 𝓤 H (𝓖 .A) fill′.signature (fill′.spec 𝓤 H (𝓖 .A) (𝓜 .mem) (𝓡 .run)))
-    (tables 𝓤 H 𝓜 𝓡 code.env .C) (tables 𝓤 H 𝓜 𝓡 code.env .Λ) #figures·fill code.function (code.unfolded 𝓤 H 𝓜 𝓡)
+    (tables 𝓤 H 𝓜 𝓡 code.env .C) (tables 𝓤 H 𝓜 𝓡 code.env .Λ) #table·fill code.function (code.unfolded 𝓤 H 𝓜 𝓡)
     (fill-meets 𝓤 H (𝓖 .A) (givenOf 𝓤 H 𝓜 𝓖) (𝓜 .mem) (𝓡 .run) (tablesOf 𝓤 H 𝓜 (tables 𝓤 H 𝓜 𝓡 code.env))
     (cited 𝓤 H (FigureAt 𝓤 H (𝓖 .A) (𝓜 .mem) (𝓡 .run)) 𝓜 𝓡 code.env #figures·figure-at figure-at-def.routine code.calls-figures·figure-at (figure-at-thm.met 𝓤 H 𝓜 𝓖 𝓡)))

@@ -1,0 +1,2 @@
+-- What the walk of the table leans on.
+pub mod Bytes
