@@ -24,20 +24,20 @@ held-none b n words sets = record {
 }
 
 -- two words stored, and then m words of a row
-pub stored : (n i p q m : ℕ) (rows : Bool) (row words after : List ℕ) → i < n → 4 * n ≤ length words → (rows ≡ true → n ≤ m)
-    → Stored (λ j. getD row j 0) (4 * n + i * n) m (set (set words (2 * n + i) p) (3 * n + i) q) after
+pub stored : (n i p q m : ℕ) {at : ℕ} (rows : Bool) (row words after : List ℕ) → i < n → 4 * n ≤ length words → (rows ≡ true → n ≤ m) → at ≡ 4 * n + i * n
+    → Stored (λ j. getD row j 0) at m (set (set words (2 * n + i) p) (3 * n + i) q) after
     → Written n i p q rows row words after
-stored n i p q m rows row words after task room all copy = record {
+stored n i p q m {at} rows row words after task room all e copy = record {
   pd = copy .before (2 * n + i) (omega arith)
-      ∙ getD-set-other (set words (2 * n + i) p) (3 * n + i) (2 * n + i) q 0 (λ e. omega arith)
+      ∙ getD-set-other (set words (2 * n + i) p) (3 * n + i) (2 * n + i) q 0 (λ s. omega arith)
       ∙ getD-set-same words (2 * n + i) p 0 (omega arith);
   md = copy .before (3 * n + i) (omega arith)
       ∙ getD-set-same (set words (2 * n + i) p) (3 * n + i) q 0 (omega (arith, length-set words (2 * n + i) p));
-  row = λ e j h.
-      let place : 4 * n + (i * n + j) ≡ 4 * n + i * n + j = omega arith in
-      ap (λ (w : ℕ). getD after w 0) place ∙ copy .part j (let less : j < m = omega (arith, all e) in less);
+  row = λ wanted j h.
+      let place : 4 * n + (i * n + j) ≡ at + j = omega arith in
+      ap (λ (w : ℕ). getD after w 0) place ∙ copy .part j (let less : j < m = omega (arith, all wanted) in less);
   kept = λ w h past-pd past-md.
-      copy .before w h ∙ getD-set-other (set words (2 * n + i) p) (3 * n + i) w q 0 past-md ∙ getD-set-other words (2 * n + i) w p 0 past-pd;
+      copy .before w (omega arith) ∙ getD-set-other (set words (2 * n + i) p) (3 * n + i) w q 0 past-md ∙ getD-set-other words (2 * n + i) w p 0 past-pd;
 }
 
 module _ (b : List ℕ) (n i p q : ℕ) (rows : Bool) (row words words' : List ℕ) (task : i < n) (written : Written n i p q rows row words words') where

@@ -1,5 +1,4 @@
 -- The laws of the walk over all tasks and their traces, and of the overhead.
-pub mod Starts
 pub mod Sets
 pub mod Overhead
 pub mod Evicted

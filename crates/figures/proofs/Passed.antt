@@ -6,16 +6,22 @@ use mathlib.Core.List.{List}
 use mathlib.Core.Path.{_≡_, sym, ap, subst, _∙_}
 use Rattle.folds.specs.Folds.{maxTo, anyTo}
 use Rattle.folds.proofs.Folds.{maxTo-none}
+use Rattle.folds.proofs.Loops.{maxTo-turn}
 use Rattle.bitset.specs.Bits.{member, wordsOf}
 use Rattle.board.specs.Layout.{traceCount}
-use Rattle.trace.specs.Traces.{traceOf, tracePD, traceMD, evicts, mostUseful}
-use Rattle.figures.specs.Starts.{At}
+use Rattle.trace.specs.Traces.{Trace, traceOf, tracePD, traceMD, evicts, mostUseful}
+use Rattle.trace.specs.Starts.{At}
 use Rattle.figures.specs.Figures.{taskTrace, taskPD, taskMD, evicting}
 use Rattle.figures.specs.Overhead.{evictedBy, reloads}
 use Rattle.figures.specs.Rows.{onCoreOf, raised}
-use Rattle.figures.proofs.Starts.{largest-turn}
 use Rattle.figures.proofs.Sets.{joined-none, joined-turn}
 use Rattle.figures.proofs.Rows.{addedBy, added-none, added-turn, added-all}
+
+-- the largest number of one trace more
+largest-turn : (F : Trace → ℕ) (b : List ℕ) (k r trace start : ℕ) {acc x : ℕ} → At b k r trace start
+    → acc ≡ maxTo (λ i. F (taskTrace b k i)) r → x ≡ F (traceOf b trace)
+    → max acc x ≡ maxTo (λ i. F (taskTrace b k i)) (r + 1)
+largest-turn F b k r trace start at e h = maxTo-turn (λ i. F (taskTrace b k i)) r e (h ∙ ap (λ (i : ℕ). F (traceOf b i)) (at .known))
 
 -- the largest PD and MD, the sets joined and, where rows are wanted, the row raised
 pub record Passed (b : List ℕ) (i r : ℕ) (rows : Bool) (pd md : ℕ) (ecb entry row : List ℕ) : Type 0 where

@@ -1,6 +1,5 @@
 -- What the sums take from a task's traces: PD, MD, ECB and the pre-emption overhead.
 pub mod Ready
-pub mod Starts
 pub mod Figures
 pub mod Overhead
 pub mod Rows

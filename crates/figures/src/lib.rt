@@ -1,7 +1,6 @@
 // The figures of a task, and the pre-emption overhead.
 mod row;
 pub mod survey;
-mod traces;
 
 use bitset::records::read;
 use board::fields;

@@ -4,12 +4,21 @@ use bitset::records::read;
 use board::fields;
 use folds::larger;
 ghost use mathlib.Core.Path.{_≡_};
-ghost use Prim.Native.Nat.{ℕ, _*_, _<_, _≤_};
+ghost use Prim.Native.Nat.{ℕ, _+_, _*_, _<_, _≤_};
 ghost use lib.ListN.{length};
 ghost use Rattle.bitset.specs.Records.{mostCommon};
+ghost use Rattle.board.specs.Layout.{mostTasks, scratchWords, mostScratch};
 ghost use Rattle.figures.specs.Ready.{Ready};
 ghost use Rattle.figures.specs.Overhead.{evictedBy};
 ghost use Rattle.figures.specs.Rows.{Evicted, onCoreOf, raised};
+
+// Where row i starts in the words of n tasks.
+pub fn place(n: usize, i: usize) -> usize
+    requires { ⌜ (i < n) × (n ≤ mostTasks) ⌝ }
+    ensures { λ r. ⌜ (r ≡ 4 * n + i * n) × (r + n ≤ scratchWords n) × (r + n ≤ mostScratch) ⌝ }
+{
+    4 * n + i * n
+}
 
 // Raises the row by the m records of a trace of task i, for each higher task j on its core. A trace with no records raises nothing.
 pub fn raise(

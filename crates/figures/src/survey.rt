@@ -1,7 +1,5 @@
 // One walk over all tasks and their traces, for PD, MD, ECB and the overheads.
 use super::row;
-use super::traces;
-use super::traces::Cursor;
 use bitset::records::read;
 use bitset::records::write;
 use board::MOST_SCRATCH;
@@ -9,6 +7,8 @@ use board::fields;
 use folds::index;
 use folds::larger;
 use folds::words::copy_at;
+use trace::cursor;
+use trace::cursor::Cursor;
 use trace::demand;
 ghost use mathlib.Core.Path.{_≡_};
 ghost use mathlib.Core.Bool.{true, _||_};
@@ -17,9 +17,9 @@ ghost use lib.ListN.{length};
 ghost use Rattle.bitset.specs.Bits.{member, wordsOf};
 ghost use Rattle.board.specs.Layout.{tasks, scratchWords};
 ghost use Rattle.board.specs.Sound.{Sound};
+ghost use Rattle.trace.specs.Starts.{Starts, At};
 ghost use Rattle.trace.specs.Traces.{traceOf, tracePD, traceMD, evicts, mostUseful};
 ghost use Rattle.figures.specs.Ready.{Ready};
-ghost use Rattle.figures.specs.Starts.{Starts, At};
 ghost use Rattle.figures.specs.Figures.{taskPD, taskMD, evicting};
 ghost use Rattle.figures.specs.Overhead.{evictedBy, reloads, γ};
 ghost use Rattle.figures.specs.Rows.{Evicting, Evicted, Cores, onCoreOf, raised};
@@ -39,7 +39,7 @@ pub fn survey(board: &[u32], count: usize, rows: bool, words: &mut [u32], sets: 
     let mut row = [0u32; 64];
     let mut marks = [0u32; 2048];
     let mut lives = [0u64; 4096];
-    let mut at = traces::first(board);
+    let mut at = cursor::first(board);
     let mut i: usize = 0;
     while i < count {
         let task = survey_task(
@@ -69,7 +69,7 @@ pub fn overhead(board: &[u32], i: usize, j: usize) -> u32
     let mut words = [0u32; MOST_SCRATCH];
     let mut sets = [0u64; 256];
     survey(board, i + 1, true, &mut words, &mut sets);
-    words[4 * n + (i * n + j)]
+    words[row::place(n, i) + j]
 }
 
 // The figures of one task, and the first trace of the next.
@@ -106,7 +106,7 @@ fn survey_task(
         let found = survey_trace(board, i, at, rows, evicted, &mut ecb, row, marks, lives);
         pd = larger(pd, found.pd);
         md = larger(md, found.md);
-        at = traces::next(board, at);
+        at = cursor::next(board, at);
         r += 1;
     }
     Task {
@@ -181,6 +181,6 @@ fn store(words: &mut [u32], n: usize, i: usize, pd: u32, md: u32, rows: bool, ro
     words[2 * n + i] = pd;
     words[3 * n + i] = md;
     if rows {
-        copy_at(n, row, words, 4 * n + i * n);
+        copy_at(n, row, words, row::place(n, i));
     }
 }

@@ -1,5 +1,6 @@
 -- The laws that join the code's scans to the definitions, and the walks of the functions over a trace that is held.
 pub mod Places
+pub mod Starts
 pub mod Loads
 pub mod Slots
 pub mod Sets

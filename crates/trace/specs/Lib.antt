@@ -2,5 +2,6 @@
 pub mod Cache
 pub mod Traces
 pub mod Places
+pub mod Starts
 pub mod Slots
 pub mod Reciprocal

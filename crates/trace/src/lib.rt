@@ -1,5 +1,6 @@
 // One trace of a task: its instructions, its loads, and what they find in memory.
 pub mod cache;
+pub mod cursor;
 pub mod demand;
 
 use folds::index;

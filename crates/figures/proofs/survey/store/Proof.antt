@@ -1,16 +1,14 @@
 -- `figures::survey::store` meets its contract.
 -- Assumes nothing.
-use Prim.Native.Nat.{ℕ, _+_, _*_, _≤_}
+use Prim.Native.Nat.{ℕ, _+_, _*_}
 use mathlib.Core.Bool.{false≢true}
 use mathlib.Core.List.{List}
-use mathlib.Core.Path.{_≡_, sym, _∙_}
+use mathlib.Core.Path.{_≡_, refl, sym, _∙_}
 use denote.Ref.{now}
 use native.Mathlib.Omega.{arith}
 use borrow.Author.Needs.{needs}
 use lib.ListN.{length, set, length-set}
 use Rattle.folds.proofs.Stored.{stored-none}
-use Rattle.board.proofs.Extents.{square-fits}
-use Rattle.figures.proofs.Rows.{row-within}
 use Rattle.figures.proofs.Held.{stored}
 use Rattle.figures.proofs.survey.store.Statement.{statement}
 use Rattle.figures.proofs.survey.store.Tie as tie
@@ -27,24 +25,21 @@ length-two c =
 second : tie.Need-slice-write-words-2
 second c = let a = c .before .args in omega (arith, length-set (now (a .words)) (2 * a .n + a .i) (a .pd))
 
--- the row lies in the table, which is small
-row-fits : (s : tie.Start) → let a = s .args in (a .i * a .n + a .n ≤ a .n * a .n) × (a .n * a .n ≤ 4096)
-row-fits s = (row-within (s .args .n) (s .args .n) (s .args .i) (s .pre .0), square-fits (s .pre .1))
-
 room : tie.Need-copy-at-requires
 room c κs =
-    let start = c .before .before .before .before in
-    (search needs, omega (arith, row-fits start, start .pre .3 (c .before .before .if1 .taken), length-two start))
+    let start = c .before .before .before .before .before in
+    (search needs, omega (arith, c .place .ensures .1, start .pre .3 (c .before .before .before .if1 .taken), length-two start))
 
 same-length : tie.Need-same-length
-same-length c = c .before .before .copy-at .ensures .size ∙ length-two (c .before .before .before .before .before .before .before)
+same-length c = c .before .before .copy-at .ensures .size ∙ length-two (c .before .before .before .before .before .before .before .before)
 
 returns : tie.Need-returns
 returns c =
-    let start = c .before .before .before .before .before .before .before in
+    let start = c .before .before .before .before .before .before .before .before in
     let a = start .args in
     let copy = c .before .before .copy-at in (
-      stored (a .n) (a .i) (a .pd) (a .md) (a .n) (a .rows) (now (a .row)) (now (a .words)) _ (start .pre .0) (start .pre .2) (λ e. omega arith) (copy .ensures),
+      stored (a .n) (a .i) (a .pd) (a .md) (a .n) (a .rows) (now (a .row)) (now (a .words)) _ (start .pre .0) (start .pre .2) (λ e. omega arith)
+          (c .before .before .before .place .ensures .0) (copy .ensures),
       copy .ensures .size ∙ length-two start,
     )
 
@@ -54,7 +49,7 @@ plain c =
     let a = start .args in (
       stored (a .n) (a .i) (a .pd) (a .md) 0 (a .rows) (now (a .row)) (now (a .words)) (two start) (start .pre .0) (start .pre .2)
           (λ e. absurd (false≢true (sym (c .if1 .left) ∙ e)))
-          (stored-none _ (4 * a .n + a .i * a .n) (two start)),
+          refl (stored-none _ (4 * a .n + a .i * a .n) (two start)),
       length-two start,
     )
 
@@ -62,5 +57,4 @@ pub store-spec : {M : Type 1} → statement M
 store-spec =
     tie.close
     (tie.spec (λ c. search needs) (λ c. search needs) (λ c. search needs) (λ c. search needs) (λ c. search needs) (λ c. search needs) (λ c. search needs)
-    second (λ c. search needs) (λ c. omega (arith, row-fits (c .before .before .before .before)))
-    (λ c. omega (arith, row-fits (c .before .before .before .before))) room same-length returns (λ c. search needs) plain)
+    second (λ c κs. search needs) room same-length returns (λ c. search needs) plain)

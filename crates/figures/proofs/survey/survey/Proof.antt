@@ -11,7 +11,7 @@ use borrow.Author.Needs.{needs}
 use lib.ListN.{length}
 use Rattle.board.specs.Layout.{tasks}
 use Rattle.figures.specs.Ready.{Ready}
-use Rattle.figures.specs.Starts.{At}
+use Rattle.trace.specs.Starts.{At}
 use Rattle.figures.specs.Rows.{Evicted, Cores}
 use Rattle.figures.specs.Survey.{Held, Overheads}
 use Rattle.figures.proofs.Evicted.{cores-none}

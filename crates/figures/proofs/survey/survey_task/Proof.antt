@@ -7,8 +7,8 @@ use native.Mathlib.Numerals.{add-one-le}
 use native.Mathlib.Omega.{arith}
 use borrow.Author.Needs.{needs}
 use Rattle.board.specs.Layout.{traceCount}
-use Rattle.figures.specs.Starts.{At}
-use Rattle.figures.proofs.Starts.{at-next, at-task, at-starts}
+use Rattle.trace.specs.Starts.{At}
+use Rattle.trace.proofs.Starts.{at-next, at-task, at-starts}
 use Rattle.figures.proofs.Passed.{Passed, passed-none, passed-next, passed-all}
 use Rattle.figures.proofs.survey.survey_task.Statement.{statement}
 use Rattle.figures.proofs.survey.survey_task.Tie as tie
@@ -30,12 +30,13 @@ starts : tie.Need-survey-trace-requires Inv μ
 starts c κs =
     let at = c .before .before .before .before .before in
     let start = at .before .before .before .before in
-    (start .pre .0, at-starts _ _ _ _ _ (start .pre .0) (at .loop .inv .1) (omega arith), start .pre .2)
+    (start .pre .0, at-starts _ _ _ _ _ (start .pre .0 .sound) (start .pre .0 .task) (at .loop .inv .1) (omega arith), start .pre .2)
 
 starts-still : tie.Need-next-requires Inv μ
 starts-still c κs =
     let at = c .before .before .before .before .before .before .before .before in
-    at-starts _ _ _ _ _ (at .before .before .before .before .pre .0) (at .loop .inv .1) (omega arith)
+    let ready = at .before .before .before .before .pre .0 in
+    at-starts _ _ _ _ _ (ready .sound) (ready .task) (at .loop .inv .1) (omega arith)
 
 again : tie.Need-loop-again Inv μ
 again c =

@@ -16,7 +16,7 @@ use Rattle.trace.specs.Traces.{Trace, traceOf, tracePD, traceMD, evicts, mostUs
 use Rattle.trace.specs.Places.{traceAt}
 use Rattle.useful.proofs.Points.{mostCommon-is}
 use Rattle.figures.specs.Overhead.{evictedBy}
-use Rattle.figures.proofs.Starts.{starts-lies, starts-trace}
+use Rattle.trace.proofs.Starts.{starts-lies, starts-trace}
 use Rattle.figures.proofs.survey.survey_trace.Statement.{statement}
 use Rattle.figures.proofs.survey.survey_trace.Tie as tie
 

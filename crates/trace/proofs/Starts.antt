@@ -1,22 +1,18 @@
 -- Laws of the places where a board's traces start, and of a walk over the traces.
 -- Assumes nothing.
-use Prim.Native.Nat.{ℕ, _+_, _≤_, _<_, max}
+use Prim.Native.Nat.{ℕ, _+_, _≤_, _<_}
 use mathlib.Core.List.{List}
 use mathlib.Core.Path.{_≡_, sym, ap, ap₂, subst₂, _∙_}
 use native.Mathlib.Omega.{arith}
 use lib.ListN.{length}
-use Rattle.folds.specs.Folds.{maxTo}
 use Rattle.folds.proofs.Folds.{sumTo-none, sumTo-next}
-use Rattle.folds.proofs.Loops.{maxTo-turn}
-use Rattle.board.specs.Layout.{traces, fetchesAt, traceCount, firstTrace, firstInstruction, traceLength}
+use Rattle.board.specs.Layout.{tasks, traces, fetchesAt, traceCount, firstTrace, firstInstruction, traceLength}
 use Rattle.board.specs.Sound.{Sound}
 use Rattle.board.proofs.Extents.{traces-fit, trace-fits}
-use Rattle.trace.specs.Traces.{Trace, traceOf}
+use Rattle.trace.specs.Traces.{traceOf}
 use Rattle.trace.specs.Places.{traceAt, Lies}
 use Rattle.trace.proofs.Places.{trace-lies, traceOf-is}
-use Rattle.figures.specs.Ready.{Ready}
-use Rattle.figures.specs.Starts.{startOf, Starts, At}
-use Rattle.figures.specs.Figures.{taskTrace}
+use Rattle.trace.specs.Starts.{startOf, Starts, At}
 
 -- ---- the place of a trace
 
@@ -50,15 +46,9 @@ pub at-next : (b : List ℕ) (k r trace start trace' start' : ℕ) → At b k r 
     → At b k (r + 1) trace' start'
 at-next b k r trace start trace' start' at e p = record { known = omega arith; place = p ∙ ap (startOf b) (sym e) }
 
-pub at-starts : (b : List ℕ) (k r trace start : ℕ) → Ready b k → At b k r trace start → r < traceCount b k → Starts b trace start
-at-starts b k r trace start ready at h = record {
-  sound = ready .sound;
-  trace = omega (arith, traces-fit b (ready .sound) k (ready .task));
+pub at-starts : (b : List ℕ) (k r trace start : ℕ) → Sound b → k < tasks b → At b k r trace start → r < traceCount b k → Starts b trace start
+at-starts b k r trace start sound task at h = record {
+  sound = sound;
+  trace = omega (arith, traces-fit b sound k task);
   place = at .place;
 }
-
--- one trace more
-pub largest-turn : (F : Trace → ℕ) (b : List ℕ) (k r trace start : ℕ) {acc x : ℕ} → At b k r trace start
-    → acc ≡ maxTo (λ i. F (taskTrace b k i)) r → x ≡ F (traceOf b trace)
-    → max acc x ≡ maxTo (λ i. F (taskTrace b k i)) (r + 1)
-largest-turn F b k r trace start at e h = maxTo-turn (λ i. F (taskTrace b k i)) r e (h ∙ ap (λ (i : ℕ). F (traceOf b i)) (at .known))

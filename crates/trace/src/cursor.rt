@@ -4,7 +4,7 @@ use folds::index;
 ghost use mathlib.Core.Path.{_≡_};
 ghost use Prim.Native.Nat.{_+_};
 ghost use Rattle.board.specs.Sound.{Sound};
-ghost use Rattle.figures.specs.Starts.{startOf, Starts, At};
+ghost use Rattle.trace.specs.Starts.{startOf, Starts, At};
 
 // A trace: its number among the board's traces, and the place of its first fetch word.
 pub struct Cursor {

@@ -1,12 +1,12 @@
--- `figures::traces::next` meets its contract.
+-- `trace::cursor::next` meets its contract.
 -- Assumes nothing.
 use mathlib.Core.Path.{refl}
 use denote.Ref.{now}
 use native.Mathlib.Omega.{arith}
 use borrow.Author.Needs.{needs}
-use Rattle.figures.proofs.Starts.{startOf-next, startOf-fits}
-use Rattle.figures.proofs.traces.next.Statement.{statement}
-use Rattle.figures.proofs.traces.next.Tie as tie
+use Rattle.trace.proofs.Starts.{startOf-next, startOf-fits}
+use Rattle.trace.proofs.cursor.next.Statement.{statement}
+use Rattle.trace.proofs.cursor.next.Tie as tie
 
 fits : tie.Need-add-t6
 fits c =

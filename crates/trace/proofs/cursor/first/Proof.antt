@@ -1,10 +1,10 @@
--- `figures::traces::first` meets its contract.
+-- `trace::cursor::first` meets its contract.
 -- Assumes nothing.
 use native.Mathlib.Omega.{arith}
 use borrow.Author.Needs.{needs}
-use Rattle.figures.proofs.Starts.{at-begin}
-use Rattle.figures.proofs.traces.first.Statement.{statement}
-use Rattle.figures.proofs.traces.first.Tie as tie
+use Rattle.trace.proofs.Starts.{at-begin}
+use Rattle.trace.proofs.cursor.first.Statement.{statement}
+use Rattle.trace.proofs.cursor.first.Tie as tie
 
 returns : tie.Need-returns
 returns c = at-begin _ _ (omega arith)
