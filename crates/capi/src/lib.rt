@@ -1,11 +1,8 @@
 // The four calls for C and Rust, on numbers and word slices; include/zuzgravel.h declares them. Each takes every input, returns a code, and
 // puts its two numbers into the first two words of `numbers`, as far as there is room.
-mod reply;
-mod table;
-
-use reply::of_answer;
-use reply::of_outcome;
-use table::fill;
+use replies::reply::of_answer;
+use replies::reply::of_outcome;
+use replies::table::fill;
 ghost use mathlib.Core.Path.{_≡_};
 ghost use Prim.Native.Nat.{_/_};
 ghost use lib.ListN.{length};
@@ -15,8 +12,8 @@ ghost use Rattle.refusals.specs.declared.Verdict.the-variants.{Passed};
 ghost use Rattle.answers.specs.Refusals.{figuresRefusal, analyseRefusal};
 ghost use Rattle.answers.specs.Answers.{system, figuresAnswer, overheadAnswer, weighAnswer, analyseAnswer, timesAfter, ScratchAfter};
 ghost use Rattle.analysis.specs.Demand.{Demand3};
-ghost use Rattle.capi.specs.Replies.{outcomeCode, outcomeNumber, answerCode, answerNumber};
-ghost use Rattle.capi.specs.Records.{recordsAfter};
+ghost use Rattle.replies.specs.Replies.{outcomeCode, outcomeNumber, answerCode, answerNumber};
+ghost use Rattle.replies.specs.Records.{recordsAfter};
 
 // Figures: the records of the tasks as words, 13 a record; the value is their number.
 #[no_mangle]

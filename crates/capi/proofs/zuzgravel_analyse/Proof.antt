@@ -1,5 +1,6 @@
 -- `capi::zuzgravel_analyse` meets its contract: the reply is that of the answer, the records are those that are counted, and the times and
 -- the scratch are as `analyse` leaves them, so that they meet demand 3.
+-- Assumes nothing.
 use Prim.Native.Nat.{_/_, _≤_}
 use mathlib.Core.Path.{_≡_, refl, sym, ap, _∙_}
 use native.Mathlib.Omega.{arith}
@@ -12,10 +13,10 @@ use Rattle.answers.specs.Answers.{answerBy, analyseAnswer, timesAfter}
 use Rattle.answers.proofs.Outcomes.{records-room}
 use Rattle.answers.proofs.Begun.{room-taken, joined}
 use Rattle.analysis.proofs.Demand.{demand3-met}
-use Rattle.capi.specs.Replies.{answerCode, answerNumber}
-use Rattle.capi.specs.Records.{recordsAfter}
-use Rattle.capi.proofs.Replies.{replies-as}
-use Rattle.capi.proofs.Records.{filled-records}
+use Rattle.replies.specs.Replies.{answerCode, answerNumber}
+use Rattle.replies.specs.Records.{recordsAfter}
+use Rattle.replies.proofs.Replies.{replies-as}
+use Rattle.replies.proofs.Records.{filled-records}
 use Rattle.capi.proofs.zuzgravel_analyse.Statement.{statement}
 use Rattle.capi.proofs.zuzgravel_analyse.Tie as tie
 

@@ -1,4 +1,5 @@
 -- `capi::zuzgravel_figures` meets its contract: the reply is that of the outcome, and the records are those that are counted.
+-- Assumes nothing.
 use Prim.Native.Nat.{_/_, _≤_}
 use mathlib.Core.Path.{_≡_, sym, ap, _∙_}
 use native.Mathlib.Omega.{arith}
@@ -10,10 +11,10 @@ use Rattle.calls.specs.Accepted.{FiguresTaken}
 use Rattle.calls.proofs.Accepted.{figures-taken}
 use Rattle.answers.specs.Answers.{unlessRefused, figuresAnswer}
 use Rattle.answers.proofs.Outcomes.{records-room, records-value}
-use Rattle.capi.specs.Replies.{outcomeCode, outcomeNumber}
-use Rattle.capi.specs.Records.{recordsAfter}
-use Rattle.capi.proofs.Replies.{replies-as}
-use Rattle.capi.proofs.Records.{filled-records}
+use Rattle.replies.specs.Replies.{outcomeCode, outcomeNumber}
+use Rattle.replies.specs.Records.{recordsAfter}
+use Rattle.replies.proofs.Replies.{replies-as}
+use Rattle.replies.proofs.Records.{filled-records}
 use Rattle.capi.proofs.zuzgravel_figures.Statement.{statement}
 use Rattle.capi.proofs.zuzgravel_figures.Tie as tie
 

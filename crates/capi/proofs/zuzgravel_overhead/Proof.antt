@@ -1,7 +1,8 @@
 -- `capi::zuzgravel_overhead` meets its contract: the reply is that of the outcome.
+-- Assumes nothing.
 use borrow.Author.Needs.{needs}
-use Rattle.capi.specs.Replies.{outcomeCode, outcomeNumber}
-use Rattle.capi.proofs.Replies.{replies-as}
+use Rattle.replies.specs.Replies.{outcomeCode, outcomeNumber}
+use Rattle.replies.proofs.Replies.{replies-as}
 use Rattle.capi.proofs.zuzgravel_overhead.Statement.{statement}
 use Rattle.capi.proofs.zuzgravel_overhead.Tie as tie
 

@@ -1,4 +1,4 @@
-// The figures table as 32-bit words, 13 a record.
+// The figures table as 32-bit words.
 use figures::Figure;
 use figures::figure_at;
 ghost use mathlib.Core.Path.{_≡_};
@@ -6,20 +6,23 @@ ghost use Prim.Native.Nat.{_*_, _≤_};
 ghost use lib.ListN.{length};
 ghost use Rattle.folds.specs.Folds.{fillTo};
 ghost use Rattle.figures.specs.Survey.{Fillable};
-ghost use Rattle.capi.specs.Records.{low, high, figureWords, recordWords};
+ghost use Rattle.replies.specs.Records.{recordWords, low, high, figureWords, tableWord};
+
+// The words of a record.
+pub const RECORD_WORDS: usize = 13;
 
 // Fills the first n records with the figures of the tasks below n. The words past them stay as they are.
 pub fn fill(board: &[u32], n: usize, words: &[u32], sets: &[u64; 256], records: &mut [u32])
-    requires { ⌜ (Fillable (now board) n (now words) (now sets)) × (13 * n ≤ length (now records)) ⌝ }
-    ensures { λ _. ⌜ now (records .exit) ≡ fillTo (recordWords (now (board .entry))) (13 * n) (now (records .entry)) ⌝ }
+    requires { ⌜ (Fillable (now board) n (now words) (now sets)) × (recordWords * n ≤ length (now records)) ⌝ }
+    ensures { λ _. ⌜ now (records .exit) ≡ fillTo (tableWord (now (board .entry))) (recordWords * n) (now (records .entry)) ⌝ }
 {
-    let end = 13 * n;
-    let mut current = [0u32; 13];
+    let end = RECORD_WORDS * n;
+    let mut current = [0u32; RECORD_WORDS];
     let mut w: usize = 0;
     while w < end {
-        let at = w % 13;
+        let at = w % RECORD_WORDS;
         if at == 0 {
-            current = words_of(figure_at(board, n, words, sets, w / 13));
+            current = words_of(figure_at(board, n, words, sets, w / RECORD_WORDS));
         }
         records[w] = current[at];
         w += 1;
@@ -27,7 +30,7 @@ pub fn fill(board: &[u32], n: usize, words: &[u32], sets: &[u64; 256], records: 
 }
 
 // The words of one record.
-fn words_of(f: Figure) -> [u32; 13]
+fn words_of(f: Figure) -> [u32; RECORD_WORDS]
     ensures { λ r. ⌜ r ≡ figureWords f ⌝ }
 {
     let ecb = f.ecb;

@@ -1,10 +1,11 @@
--- `capi::reply::give` meets its contract: two stores.
+-- `replies::reply::give` meets its contract: two stores.
+-- Assumes nothing.
 use mathlib.Core.Path.{refl, ap, _∙_}
 use borrow.Author.Needs.{needs}
 use lib.ListN.{set}
 use Rattle.folds.specs.Folds.{fillTo}
-use Rattle.capi.proofs.reply.give.Statement.{statement}
-use Rattle.capi.proofs.reply.give.Tie as tie
+use Rattle.replies.proofs.reply.give.Statement.{statement}
+use Rattle.replies.proofs.reply.give.Tie as tie
 
 returns : tie.Need-returns
 unfolding fillTo

@@ -1,4 +1,4 @@
--- The figures table as 32-bit words, 13 a record: a buffer of m words has room for m / 13 records.
+-- The figures table as 32-bit words: a buffer of m words has room for m / recordWords records.
 -- Assumes nothing.
 use Prim.Native.Nat.{ℕ, _*_, _/_, _%_, _^_}
 use mathlib.Core.List.{List, [], _∷_}
@@ -10,6 +10,10 @@ use Rattle.refusals.specs.declared.Verdict.the-variants.{Passed, Refused}
 use Rattle.figures.specs.declared.Figure.{Figure}
 use Rattle.figures.specs.Figures.{figureOf}
 
+-- the words of a record
+abbrev pub recordWords : ℕ
+recordWords = 13
+
 -- the low and the high 32 bits of a 64-bit word
 abbrev pub low : ℕ → ℕ
 low x = x % 2 ^ 32
@@ -17,7 +21,7 @@ low x = x % 2 ^ 32
 abbrev pub high : ℕ → ℕ
 high x = x / 2 ^ 32
 
--- the words of a record: core, T, D, PD, MD, then each word of ECB as its low and its high half
+-- a record as words: core, T, D, PD, MD, then each word of ECB as its low and its high half
 unfoldable pub figureWords : Figure → List ℕ
 figureWords f =
     f .core ∷ f .period ∷ f .deadline ∷ f .pd ∷ f .md
@@ -31,10 +35,10 @@ abbrev pub figureWord : Figure → ℕ → ℕ
 figureWord f w = getD (figureWords f) w 0
 
 -- word w of the table of a board's figures
-abbrev pub recordWords : List ℕ → ℕ → ℕ
-recordWords b w = figureWord (figureOf b (w / 13)) (w % 13)
+abbrev pub tableWord : List ℕ → ℕ → ℕ
+tableWord b w = figureWord (figureOf b (w / recordWords)) (w % recordWords)
 
 -- the words, which were `old`, after a call: its first n records are the figures, unless refused
 unfoldable pub recordsAfter : List ℕ → Verdict → List ℕ → List ℕ
-recordsAfter b Passed old = fillTo (recordWords b) (13 * tasks b) old
+recordsAfter b Passed old = fillTo (tableWord b) (recordWords * tasks b) old
 recordsAfter b (Refused number place) old = old

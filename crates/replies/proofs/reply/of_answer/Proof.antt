@@ -1,10 +1,11 @@
--- `capi::reply::of_answer` meets its contract: each arm is its variant's case of `answerCode` and `answerNumber`.
+-- `replies::reply::of_answer` meets its contract: each arm is its variant's case of `answerCode` and `answerNumber`.
+-- Assumes nothing.
 use mathlib.Core.Path.{sym}
 use borrow.Author.Needs.{needs}
-use Rattle.capi.specs.Replies.{answerCode, answerNumber}
-use Rattle.capi.proofs.Replies.{replies-as}
-use Rattle.capi.proofs.reply.of_answer.Statement.{statement}
-use Rattle.capi.proofs.reply.of_answer.Tie as tie
+use Rattle.replies.specs.Replies.{answerCode, answerNumber}
+use Rattle.replies.proofs.Replies.{replies-as}
+use Rattle.replies.proofs.reply.of_answer.Statement.{statement}
+use Rattle.replies.proofs.reply.of_answer.Tie as tie
 
 times : tie.Need-returns
 times c =

@@ -1,8 +1,9 @@
--- `capi::table::words_of` meets its contract, word by word.
+-- `replies::table::words_of` meets its contract, word by word.
+-- Assumes nothing.
 use borrow.Author.Needs.{needs}
-use Rattle.capi.specs.Records.{figureWords}
-use Rattle.capi.proofs.table.words_of.Statement.{statement}
-use Rattle.capi.proofs.table.words_of.Tie as tie
+use Rattle.replies.specs.Records.{figureWords}
+use Rattle.replies.proofs.table.words_of.Statement.{statement}
+use Rattle.replies.proofs.table.words_of.Tie as tie
 
 returns : tie.Need-returns
 unfolding figureWords

@@ -11,7 +11,7 @@ use lib.Pow.{shr-shr, field, mod-mod-pow}
 use Rattle.folds.proofs.Numbers.{le-or-lt}
 use Rattle.bitset.specs.Bits.{bit, member}
 use Rattle.figures.specs.declared.Figure.{Figure}
-use Rattle.capi.specs.Records.{low, high, figureWords, figureWord}
+use Rattle.replies.specs.Records.{low, high, figureWords, figureWord}
 
 -- the bits of a word's halves
 bit-low : (x k : ℕ) → k < 32 → bit (low x) k ≡ bit x k

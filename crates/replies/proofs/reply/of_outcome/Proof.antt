@@ -1,10 +1,11 @@
--- `capi::reply::of_outcome` meets its contract: each arm is its variant's case of `outcomeCode` and `outcomeNumber`.
+-- `replies::reply::of_outcome` meets its contract: each arm is its variant's case of `outcomeCode` and `outcomeNumber`.
+-- Assumes nothing.
 use mathlib.Core.Path.{sym}
 use borrow.Author.Needs.{needs}
-use Rattle.capi.specs.Replies.{outcomeCode, outcomeNumber}
-use Rattle.capi.proofs.Replies.{replies-as}
-use Rattle.capi.proofs.reply.of_outcome.Statement.{statement}
-use Rattle.capi.proofs.reply.of_outcome.Tie as tie
+use Rattle.replies.specs.Replies.{outcomeCode, outcomeNumber}
+use Rattle.replies.proofs.Replies.{replies-as}
+use Rattle.replies.proofs.reply.of_outcome.Statement.{statement}
+use Rattle.replies.proofs.reply.of_outcome.Tie as tie
 
 value : tie.Need-returns
 value c =

@@ -1,4 +1,5 @@
--- `capi::table::fill` meets its contract. The invariant: the buffer with the words passed, and the words of the record that w is in.
+-- `replies::table::fill` meets its contract. The invariant: the buffer with the words passed, and the words of the record that w is in.
+-- Assumes nothing.
 use Prim.Native.Nat.{_-_, _/_, _%_, _≤_}
 use mathlib.Core.Logic.{⊎-elim}
 use mathlib.Core.Path.{_≡_, sym, ap, _∙_}
@@ -10,13 +11,13 @@ use Rattle.folds.specs.Folds.{fillTo}
 use Rattle.folds.proofs.Lists.{fillTo-none, length-fillTo}
 use Rattle.folds.proofs.Loops.{at-end, fillTo-turn}
 use Rattle.figures.specs.Figures.{figureOf}
-use Rattle.capi.specs.Records.{figureWords, recordWords}
-use Rattle.capi.proofs.Records.{Within, within-next}
-use Rattle.capi.proofs.table.fill.Statement.{statement}
-use Rattle.capi.proofs.table.fill.Tie as tie
+use Rattle.replies.specs.Records.{recordWords, figureWords, tableWord}
+use Rattle.replies.proofs.Records.{Within, within-next}
+use Rattle.replies.proofs.table.fill.Statement.{statement}
+use Rattle.replies.proofs.table.fill.Tie as tie
 
 abbrev Inv : tie.InvT-loop
-Inv b n words sets records₀ end current₀ w₀ records current w = (w ≤ end) × Within b current w × (records ≡ fillTo (recordWords b) w records₀)
+Inv b n words sets records₀ end current₀ w₀ records current w = (w ≤ end) × Within b current w × (records ≡ fillTo (tableWord b) w records₀)
 
 abbrev μ : tie.MeasureT-loop
 μ b n words sets records₀ end current₀ w₀ records current w = end - w
@@ -29,7 +30,7 @@ ready c κs = let at = c .before .before in (at .before .before .before .before 
 
 -- the words are those of the record that w is in
 words : (c : tie.Joined1 Inv μ)
-    → c .if1 .current ≡ figureWords (figureOf (now (c .before .before .before .before .before .before .args .board)) (c .before .before .loop .w / 13))
+    → c .if1 .current ≡ figureWords (figureOf (now (c .before .before .before .before .before .before .args .board)) (c .before .before .loop .w / recordWords))
 words c =
     ⊎-elim
     (λ made. made .3 ∙ made .2 .ensures ∙ ap figureWords (made .1 .ensures))
@@ -43,7 +44,7 @@ again : tie.Need-loop-again Inv μ
 again c =
     let at = c .before .before in
     let a = at .before .before .before .before .args in
-    (search needs, within-next _ _ _ (words c), fillTo-turn (recordWords (now (a .board))) (now (a .records)) (at .loop .w) (at .loop .inv .2) (ap (λ l. getD l (at .loop .w % 13) 0) (words c)))
+    (search needs, within-next _ _ _ (words c), fillTo-turn (tableWord (now (a .board))) (now (a .records)) (at .loop .w) (at .loop .inv .2) (ap (λ l. getD l (at .loop .w % recordWords) 0) (words c)))
 
 same-length : tie.Need-same-length Inv μ
 same-length c = ap length (c .before .loop .inv .2) ∙ length-fillTo _ _ _
@@ -52,7 +53,7 @@ returns : tie.Need-returns Inv μ
 returns c =
     let at = c .before in
     let a = at .before .before .before .before .args in
-    at-end (λ w. fillTo (recordWords (now (a .board))) w (now (a .records))) (at .loop .inv .2) (omega arith) (omega arith)
+    at-end (λ w. fillTo (tableWord (now (a .board))) w (now (a .records))) (at .loop .inv .2) (omega arith) (omega arith)
 
 pub fill-spec : {M : Type 1} → statement M
 fill-spec =

@@ -4,7 +4,7 @@ use answers::Outcome;
 ghost use mathlib.Core.Path.{_≡_};
 ghost use lib.ListN.{set};
 ghost use Rattle.folds.specs.Folds.{fillTo};
-ghost use Rattle.capi.specs.Replies.{two, outcomeCode, outcomeNumber, answerCode, answerNumber};
+ghost use Rattle.replies.specs.Replies.{two, outcomeCode, outcomeNumber, answerCode, answerNumber};
 
 // The code of an outcome, its numbers being put into the buffer.
 pub fn of_outcome(outcome: Outcome, numbers: &mut [u64]) -> u32
