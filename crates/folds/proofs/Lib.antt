@@ -3,6 +3,7 @@ pub mod Numbers
 pub mod Folds
 pub mod Searches
 pub mod Lists
+pub mod Joined
 pub mod Loops
 pub mod Named
 pub mod Filled
