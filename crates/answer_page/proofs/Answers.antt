@@ -8,8 +8,8 @@ use Rattle.answers.specs.declared.Answer.{Answer}
 use Rattle.answers.specs.declared.Answer.the-variants.{Times, Late, Spent, Refused}
 use Rattle.text.specs.Text.{decimal, line, okText, lateText, spentText, badText}
 use Rattle.text.specs.Buffer.{Put}
-use Rattle.page.specs.Page.{taskLines, answerPage}
-use Rattle.page.specs.Printable.{Printable}
+use Rattle.answer_page.specs.AnswerPage.{taskLines, answerPage}
+use Rattle.answer_page.specs.Printable.{Printable}
 use Rattle.text.proofs.Buffer.{put-same, put-then}
 
 -- what it takes to print r, where r is s

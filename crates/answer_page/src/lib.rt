@@ -4,12 +4,13 @@ ghost use Prim.Native.Nat.{_+_, _*_, _≤_, _<_};
 ghost use lib.ListN.{length};
 ghost use Rattle.text.specs.Text.{decimal, line};
 ghost use Rattle.text.specs.Buffer.{Put};
-ghost use Rattle.page.specs.Page.{taskLine, taskLines, answerPage};
-ghost use Rattle.page.specs.Printable.{Printable};
+ghost use Rattle.answer_page.specs.AnswerPage.{taskLine, taskLines, answerPage};
+ghost use Rattle.answer_page.specs.Printable.{Printable};
 ghost use Rattle.board.specs.Layout.{tasks};
 ghost use Rattle.board.specs.Sound.{Sound};
 ghost use Rattle.answers.specs.declared.Answer.the-variants.{Times};
 use answers::Answer;
+use board::fields;
 use folds::index;
 use folds::wide;
 use text::put_field;
@@ -28,7 +29,8 @@ fn number_line(out: &mut [u8], text: &[u8], x: u64) -> usize
 // Puts a line of a text and two numbers at the start: at most 43 bytes after the text.
 pub fn pair_line(out: &mut [u8], text: &[u8], x: u64, y: u64) -> usize
     requires { ⌜ length (now text) + 43 ≤ length (now out) ⌝ }
-    ensures { λ r. ⌜ Put (now (out .entry)) 0 (line (now (text .entry) ∷ decimal x ∷ decimal y ∷ [])) (now (out .exit)) r × (r ≤ length (now (text .entry)) + 43) ⌝ }
+    ensures { λ r. ⌜ Put (now (out .entry)) 0 (line (now (text .entry) ∷ decimal x ∷ decimal y ∷ [])) (now (out .exit)) r
+        × (r ≤ length (now (text .entry)) + 43) ⌝ }
 {
     let first = put_field(out, 0, text, b' ');
     let next = put_number(out, first, x, b' ');
@@ -37,19 +39,18 @@ pub fn pair_line(out: &mut [u8], text: &[u8], x: u64, y: u64) -> usize
 
 // Puts the line of task k: four words, at most 44 bytes.
 fn task_line(out: &mut [u8], at: usize, board: &[u32], times: &[u32], k: usize) -> usize
-    requires { ⌜ (k < 64) × (20 + 5 * k + 5 ≤ length (now board)) × (k < length (now times)) × (at + 44 ≤ length (now out)) ⌝ }
+    requires { ⌜ Sound (now board) × (k < tasks (now board)) × (k < length (now times)) × (at + 44 ≤ length (now out)) ⌝ }
     ensures { λ r. ⌜ Put (now (out .entry)) at (taskLine (now (board .entry)) (now (times .entry)) k) (now (out .exit)) r × (r ≤ at + 44) ⌝ }
 {
-    let words = 20 + 5 * k;
     let first = put_word(out, at, k as u32 + 1, b' ');
-    let second = put_word(out, first, board[words], b' ');
+    let second = put_word(out, first, fields::core(board, k), b' ');
     let third = put_word(out, second, times[k], b' ');
-    put_word(out, third, board[words + 2], b'\n')
+    put_word(out, third, fields::deadline(board, k), b'\n')
 }
 
 // Puts the lines of the first n tasks.
 fn task_lines(out: &mut [u8], at: usize, board: &[u32], times: &[u32], n: usize) -> usize
-    requires { ⌜ (n ≤ 64) × (20 + 5 * n ≤ length (now board)) × (n ≤ length (now times)) × (at + 44 * n ≤ length (now out)) ⌝ }
+    requires { ⌜ Sound (now board) × (n ≤ tasks (now board)) × (n ≤ length (now times)) × (at + 44 * n ≤ length (now out)) ⌝ }
     ensures { λ r. ⌜ Put (now (out .entry)) at (taskLines (now (board .entry)) (now (times .entry)) n) (now (out .exit)) r ⌝ }
 {
     let mut next = at;
@@ -66,7 +67,7 @@ fn times_page(out: &mut [u8], board: &[u32], times: &[u32], passes: u32) -> usiz
     requires { ⌜ Sound (now board) × (tasks (now board) ≤ length (now times)) × (4096 ≤ length (now out)) ⌝ }
     ensures { λ r. ⌜ Put (now (out .entry)) 0 (answerPage (now (board .entry)) (now (times .entry)) (Times passes)) (now (out .exit)) r ⌝ }
 {
-    let n = index(board[1]);
+    let n = index(fields::tasks(board));
     let next = pair_line(out, b"ok", n as u64, wide(passes));
     task_lines(out, next, board, times, n)
 }
@@ -79,7 +80,7 @@ pub fn answer_page(out: &mut [u8], board: &[u32], times: &[u32], answer: Answer)
     match answer {
         Answer::Times(passes) => times_page(out, board, times, passes),
         Answer::Late(task, passes) => pair_line(out, b"late", wide(task), wide(passes)),
-        Answer::Spent => number_line(out, b"spent", wide(board[12])),
+        Answer::Spent => number_line(out, b"spent", wide(fields::pass_limit(board))),
         Answer::Refused(number, place) => pair_line(out, b"bad", number as u64, place as u64),
     }
 }

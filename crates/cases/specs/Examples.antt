@@ -4,7 +4,7 @@ use Prim.Native.Nat.{ℕ, _/_, _%_}
 use mathlib.Core.List.{List, [], _∷_}
 use mathlib.Core.Path.{_≡_, refl}
 use lib.ListN.{length, set}
-use Rattle.folds.specs.Folds.{ceilDiv, sumTo, maxTo, countTo, anyTo, firstFrom, tabulate, fillTo, sameList}
+use Rattle.folds.specs.Folds.{ceilDiv, sumTo, maxTo, countTo, anyTo, firstFrom, tabulate, joinTo, fillTo, sameList}
 use Rattle.bitset.specs.Bits.{wordOf, wordsOf}
 use Rattle.board.specs.Layout.{firstTrace, firstInstruction}
 use Rattle.refusals.specs.Refusals.{headerRanges, headerOk, taskRanges, taskOk, workOk, refuseUnless, firstBad, refuseFirst, refusalOf}
@@ -18,7 +18,8 @@ use Rattle.answers.specs.Refusals.{figuresRefusal, overheadRefusal, analyseRefu
 use Rattle.answers.specs.Answers.{figuresAnswer, overheadAnswer, settledAnswer, analyseAnswer, timesLeft, timesAfter}
 use Rattle.input.specs.Input.{wordsIn, inputRefusal}
 use Rattle.text.specs.Text.{digitsOf, decimal, line}
-use Rattle.page.specs.Page.{taskLines, answerPage, boardPage, pageOf}
+use Rattle.answer_page.specs.AnswerPage.{answerPage}
+use Rattle.page.specs.Page.{boardPage, pageOf}
 use Rattle.answers.specs.declared.Answer.{Answer}
 use Rattle.answers.specs.declared.Answer.the-variants.{Times, Late, Spent}
 use Rattle.answers.specs.declared.Outcome.the-variants.{Value}
@@ -151,7 +152,7 @@ pub examples :
     × (usefulSets K10 ≡ noSet ∷ noSet ∷ noSet ∷ [])
     × (overheadAnswer (K11 4) 2 1 ≡ Value 1)
     × (overheadAnswer (K11 5) 2 1 ≡ Value 0)
-unfolding ceilDiv sumTo maxTo countTo anyTo firstFrom tabulate fillTo sameList wordOf wordsOf firstTrace firstInstruction headerRanges headerOk taskRanges taskOk workOk refuseUnless firstBad refuseFirst refusalOf firstIn lastIn someIn hits missCount traceOf loads tracePD busLoads traceMD evicts useful usefulAt mostUseful taskPD taskMD evicting figureOf evictedBy reloads γ memoryDemand ownAccesses carryIn coreAccesses lowerAccesses interference busAccesses refreshes higherWork taskSum pass after unchanged changes passesBy settledBy firstLate figuresRefusal overheadRefusal analyseRefusal figuresAnswer overheadAnswer settledAnswer analyseAnswer timesLeft wordsIn inputRefusal digitsOf decimal line taskLines answerPage boardPage pageOf
+unfolding ceilDiv sumTo maxTo countTo anyTo firstFrom tabulate fillTo sameList wordOf wordsOf firstTrace firstInstruction headerRanges headerOk taskRanges taskOk workOk refuseUnless firstBad refuseFirst refusalOf firstIn lastIn someIn hits missCount traceOf loads tracePD busLoads traceMD evicts useful usefulAt mostUseful taskPD taskMD evicting figureOf evictedBy reloads γ memoryDemand ownAccesses carryIn coreAccesses lowerAccesses interference busAccesses refreshes higherWork taskSum pass after unchanged changes passesBy settledBy firstLate figuresRefusal overheadRefusal analyseRefusal figuresAnswer overheadAnswer settledAnswer analyseAnswer timesLeft wordsIn inputRefusal digitsOf decimal line joinTo answerPage boardPage pageOf
 examples = (
   (refl, refl),
   refl,

@@ -15,9 +15,10 @@ use Rattle.answers.specs.Answers.{answerBy, analyseAnswer, timesAfter}
 use Rattle.answers.specs.declared.Answer.{Answer}
 use Rattle.answers.specs.declared.Answer.the-variants.{Times, Late, Spent, Refused}
 use Rattle.input.specs.Input.{wordsIn, inputRefusal}
-use Rattle.page.specs.Page.{lentTimes, lentScratch, lentRecords, badLine, answerPage, boardPage, pageBy, pageOf}
-use Rattle.page.specs.Printable.{Printable}
-use Rattle.page.proofs.Answers.{printable-as}
+use Rattle.answer_page.specs.AnswerPage.{badLine, answerPage}
+use Rattle.answer_page.specs.Printable.{Printable}
+use Rattle.answer_page.proofs.Answers.{printable-as}
+use Rattle.page.specs.Page.{mostTasks, lentTimes, lentScratch, boardPage, pageBy, pageOf}
 
 -- what Analyse answers can be printed: where it does not refuse, the board is sound and each task has a time
 module _ (b R : List ℕ) where
@@ -42,7 +43,7 @@ module _ (b R : List ℕ) where
     analyse-printable e = printable-as b R (sym e) (by-verdict (analyseRefusal b times scratch table) refl)
 
 -- the page of Analyse's answer is the board's
-pub boardPage-is : (b R : List ℕ) (r : Answer) → r ≡ analyseAnswer b 64 lentScratch lentRecords → R ≡ timesAfter b r lentTimes
+pub boardPage-is : (b R : List ℕ) (r : Answer) → r ≡ analyseAnswer b mostTasks lentScratch mostTasks → R ≡ timesAfter b r lentTimes
     → answerPage b R r ≡ boardPage b
 unfolding boardPage
 boardPage-is b R r e h = rw (h, e)

@@ -1,3 +1,2 @@
 -- From the input's bytes to the page's bytes.
 pub mod Page
-pub mod Printable

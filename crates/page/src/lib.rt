@@ -1,6 +1,4 @@
 // The program's input as words, and its answer page as bytes.
-mod answer;
-
 ghost use mathlib.Core.Path.{_≡_};
 ghost use Prim.Native.Nat.{_≤_};
 ghost use lib.ListN.{length, take, drop};
@@ -9,11 +7,16 @@ ghost use Rattle.refusals.specs.declared.Verdict.the-variants.{Passed};
 ghost use Rattle.input.specs.Input.{inputRefusal};
 ghost use Rattle.text.specs.Buffer.{Put};
 ghost use Rattle.page.specs.Page.{boardPage, pageOf};
-use answer::answer_page;
-use answer::pair_line;
+use answer_page::answer_page;
+use answer_page::pair_line;
 use input::decode;
 use input::refusal;
 use refusals::Verdict;
+
+// The most tasks that a board can have, and the scratch for so many.
+const MOST_TASKS: usize = 64;
+
+const LENT_SCRATCH: usize = MOST_TASKS * MOST_TASKS + 4 * MOST_TASKS;
 
 // Reads the input until its end, a failed read or 65,537 bytes, and writes its page.
 pub fn run(from: i32, to: i32) {
@@ -59,8 +62,8 @@ pub fn board_page(out: &mut [u8], board: &[u32]) -> usize
     ensures { λ r. ⌜ Put (now (out .entry)) 0 (boardPage (now (board .entry))) (now (out .exit)) r ⌝ }
     ensures { λ r. ⌜ Counts r (now (out .exit)) ⌝ }
 {
-    let mut times = [0u32; 64];
-    let mut scratch = [0u32; 4352];
+    let mut times = [0u32; MOST_TASKS];
+    let mut scratch = [0u32; LENT_SCRATCH];
     let answer = analysis::analyse_alone(board, &mut times, &mut scratch);
     answer_page(out, board, &times, answer)
 }

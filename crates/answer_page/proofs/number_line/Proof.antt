@@ -1,8 +1,9 @@
--- `page::answer::number_line` meets its contract.
+-- `answer_page::number_line` meets its contract.
+-- Assumes nothing.
 use borrow.Author.Needs.{needs}
-use Rattle.page.proofs.Lines.{put-last, put-more}
-use Rattle.page.proofs.answer.number_line.Statement.{statement}
-use Rattle.page.proofs.answer.number_line.Tie as tie
+use Rattle.answer_page.proofs.Lines.{put-last, put-more}
+use Rattle.answer_page.proofs.number_line.Statement.{statement}
+use Rattle.answer_page.proofs.number_line.Tie as tie
 
 pub number-line-spec : {M : Type 1} → statement M
 number-line-spec =

@@ -1,9 +1,10 @@
--- `page::answer::pair_line` meets its contract.
+-- `answer_page::pair_line` meets its contract.
+-- Assumes nothing.
 use borrow.Author.Needs.{needs}
 use native.Mathlib.Omega.{arith}
-use Rattle.page.proofs.Lines.{put-last, put-more}
-use Rattle.page.proofs.answer.pair_line.Statement.{statement}
-use Rattle.page.proofs.answer.pair_line.Tie as tie
+use Rattle.answer_page.proofs.Lines.{put-last, put-more}
+use Rattle.answer_page.proofs.pair_line.Statement.{statement}
+use Rattle.answer_page.proofs.pair_line.Tie as tie
 
 pub pair-line-spec : {M : Type 1} → statement M
 pair-line-spec =
@@ -12,5 +13,7 @@ pair-line-spec =
     (λ c.
     let second = c .before .before in
     let first = second .before .before .before .before in
-    let start = first .before .before .before .before in
-    (put-more _ _ _ (start .put-field .ensures .0) (put-more _ _ _ (first .put-number .ensures .0) (put-last _ (second .put-number2 .ensures .0))), omega arith)))
+    let start = first .before .before .before .before in (
+      put-more _ _ _ (start .put-field .ensures .0) (put-more _ _ _ (first .put-number .ensures .0) (put-last _ (second .put-number2 .ensures .0))),
+      omega arith,
+    )))

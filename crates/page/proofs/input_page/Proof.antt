@@ -1,4 +1,5 @@
 -- `page::input_page` meets its contract: an arm for each verdict of row 15.
+-- Assumes nothing.
 use mathlib.Core.Path.{sym, _∙_}
 use borrow.Author.Needs.{needs}
 use native.Mathlib.Omega.{arith}

@@ -1,4 +1,5 @@
 -- `page::page_of` meets its contract.
+-- Assumes nothing.
 use borrow.Author.Needs.{needs}
 use Rattle.text.proofs.Buffer.{put-take, put-drop, put-counts}
 use Rattle.page.proofs.page_of.Statement.{statement}

@@ -1,4 +1,5 @@
 -- `page::words_page` meets its contract: an input that row 15 passes has at most 16,384 words.
+-- Assumes nothing.
 use borrow.Author.Needs.{needs}
 use native.Mathlib.Omega.{arith}
 use Rattle.text.proofs.Buffer.{put-same}
