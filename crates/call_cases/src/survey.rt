@@ -11,10 +11,13 @@ use lines::print::print_fields;
 use lines::print::print_refusal;
 use refusals::Verdict;
 ghost use mathlib.Core.Path.{_≡_};
-ghost use Prim.Native.Nat.{_+_, _<_, _≤_};
+ghost use Prim.Native.Nat.{_+_, _*_, _<_, _≤_};
 ghost use lib.ListN.{length};
 ghost use Rattle.board.specs.Layout.{tasks};
 ghost use Rattle.board.specs.Sound.{Sound};
+
+// The words that the walk takes for 64 tasks.
+const WORDS: usize = 4352;
 
 // A line a task: its number, core, T, D, PD, MD and the words of its ECB. A line a task i: `gamma` and the overheads γ(i, j) of the walk over all tasks.
 // Then `last` and those of the last task, each by a call of its own. Or `bad` with number and place.
@@ -33,7 +36,7 @@ fn print_board(board: &[u32])
     requires { ⌜ Sound (now board) ⌝ }
 {
     let n = index(fields::tasks(board));
-    let mut words = [0u32; 4352];
+    let mut words = [0u32; WORDS];
     let mut sets = [0u64; 256];
     survey(board, n, true, &mut words, &mut sets);
     print_figures(board, n, &words, &sets);
@@ -41,7 +44,7 @@ fn print_board(board: &[u32])
     print_last(board);
 }
 
-fn print_figures(board: &[u32], n: usize, words: &[u32; 4352], sets: &[u64; 256])
+fn print_figures(board: &[u32], n: usize, words: &[u32; WORDS], sets: &[u64; 256])
     requires { ⌜ (Sound (now board)) × (n ≡ tasks (now board)) ⌝ }
 {
     let mut k: usize = 0;
@@ -70,7 +73,7 @@ fn print_figure(board: &[u32], k: usize, pd: u32, md: u32, ecb: [u64; 4])
 }
 
 fn print_overheads(n: usize, words: &[u32])
-    requires { ⌜ (n ≤ 64) × (4352 ≤ length (now words)) ⌝ }
+    requires { ⌜ 4 * n + n * n ≤ length (now words) ⌝ }
 {
     let mut i: usize = 0;
     while i < n {

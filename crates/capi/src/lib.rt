@@ -19,8 +19,10 @@ ghost use Rattle.replies.specs.Records.{recordsAfter};
 #[no_mangle]
 pub extern "C" fn zuzgravel_figures(board: &[u32], records: &mut [u32], numbers: &mut [u64]) -> u32
     ensures code { λ r. ⌜ r ≡ outcomeCode (figuresAnswer (now (board .entry)) (length (now (records .entry)) / 13)) ⌝ }
-    ensures numbers { λ _. ⌜ now (numbers .exit) ≡ fillTo (outcomeNumber (figuresAnswer (now (board .entry)) (length (now (records .entry)) / 13))) 2 (now (numbers .entry)) ⌝ }
-    ensures records { λ _. ⌜ now (records .exit) ≡ recordsAfter (now (board .entry)) (figuresRefusal (now (board .entry)) (length (now (records .entry)) / 13)) (now (records .entry)) ⌝ }
+    ensures numbers { λ _. ⌜ now (numbers .exit) ≡ fillTo
+        (outcomeNumber (figuresAnswer (now (board .entry)) (length (now (records .entry)) / 13))) 2 (now (numbers .entry)) ⌝ }
+    ensures records { λ _. ⌜ now (records .exit) ≡ recordsAfter (now (board .entry))
+        (figuresRefusal (now (board .entry)) (length (now (records .entry)) / 13)) (now (records .entry)) ⌝ }
 {
     let verdict = calls::check_figures(board, records.len() / 13);
     let mut words = [0u32; 256];
@@ -62,13 +64,25 @@ pub extern "C" fn zuzgravel_analyse(
     records: &mut [u32],
     numbers: &mut [u64],
 ) -> u32
-    ensures code { λ r. ⌜ r ≡ answerCode (analyseAnswer (now (board .entry)) (length (now (times .entry))) (length (now (scratch .entry))) (length (now (records .entry)) / 13)) ⌝ }
-    ensures numbers { λ _. ⌜ now (numbers .exit) ≡ fillTo (answerNumber (analyseAnswer (now (board .entry)) (length (now (times .entry))) (length (now (scratch .entry))) (length (now (records .entry)) / 13))) 2 (now (numbers .entry)) ⌝ }
-    ensures times { λ _. ⌜ now (times .exit) ≡ timesAfter (now (board .entry)) (analyseAnswer (now (board .entry)) (length (now (times .entry))) (length (now (scratch .entry))) (length (now (records .entry)) / 13)) (now (times .entry)) ⌝ }
-    ensures records { λ _. ⌜ now (records .exit) ≡ recordsAfter (now (board .entry)) (analyseRefusal (now (board .entry)) (length (now (times .entry))) (length (now (scratch .entry))) (length (now (records .entry)) / 13)) (now (records .entry)) ⌝ }
-    ensures scratch { λ _. ⌜ ScratchAfter (analyseRefusal (now (board .entry)) (length (now (times .entry))) (length (now (scratch .entry))) (length (now (records .entry)) / 13)) (now (scratch .entry)) (now (scratch .exit)) ⌝ }
-    ensures demand3 { λ _. ⌜ (analyseRefusal (now (board .entry)) (length (now (times .entry))) (length (now (scratch .entry))) (length (now (records .entry)) / 13) ≡ Passed
-        → Demand3 (system (now (board .entry))) (passLimit (now (board .entry))) (analyseAnswer (now (board .entry)) (length (now (times .entry))) (length (now (scratch .entry))) (length (now (records .entry)) / 13)) (now (times .exit))) ⌝ }
+    ensures code { λ r. ⌜ r ≡ answerCode
+        (analyseAnswer (now (board .entry)) (length (now (times .entry))) (length (now (scratch .entry))) (length (now (records .entry)) / 13)) ⌝ }
+    ensures numbers { λ _. ⌜ now (numbers .exit) ≡ fillTo
+        (answerNumber (analyseAnswer (now (board .entry)) (length (now (times .entry))) (length (now (scratch .entry))) (length (now (records .entry)) / 13)))
+        2 (now (numbers .entry)) ⌝ }
+    ensures times { λ _. ⌜ now (times .exit) ≡ timesAfter (now (board .entry))
+        (analyseAnswer (now (board .entry)) (length (now (times .entry))) (length (now (scratch .entry))) (length (now (records .entry)) / 13))
+        (now (times .entry)) ⌝ }
+    ensures records { λ _. ⌜ now (records .exit) ≡ recordsAfter (now (board .entry))
+        (analyseRefusal (now (board .entry)) (length (now (times .entry))) (length (now (scratch .entry))) (length (now (records .entry)) / 13))
+        (now (records .entry)) ⌝ }
+    ensures scratch { λ _. ⌜ ScratchAfter
+        (analyseRefusal (now (board .entry)) (length (now (times .entry))) (length (now (scratch .entry))) (length (now (records .entry)) / 13))
+        (now (scratch .entry)) (now (scratch .exit)) ⌝ }
+    ensures demand3 { λ _. ⌜ (analyseRefusal
+        (now (board .entry)) (length (now (times .entry))) (length (now (scratch .entry))) (length (now (records .entry)) / 13) ≡ Passed
+        → Demand3 (system (now (board .entry))) (passLimit (now (board .entry)))
+        (analyseAnswer (now (board .entry)) (length (now (times .entry))) (length (now (scratch .entry))) (length (now (records .entry)) / 13))
+        (now (times .exit))) ⌝ }
 {
     let verdict = calls::check_analyse(board, times.len(), scratch.len(), records.len() / 13);
     let mut words = [0u32; 256];

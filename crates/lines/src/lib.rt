@@ -1,4 +1,4 @@
-// Boards as text, one to a line: the words in decimal, and x*n for n words x.
+// Words as text, a line at a time: in decimal, and x*n for n words x.
 pub mod print;
 
 use folds::index;
@@ -12,14 +12,14 @@ struct Number {
     next: usize,
 }
 
-// A word, how many times it stands on the board, and the index after it in the text.
+// A word, how many times it stands in the line, and the index after it in the text.
 struct Run {
     value: u32,
     times: usize,
     next: usize,
 }
 
-// How many words the board of a line has, and where the next line starts.
+// How many words a line has, and where the next line starts.
 pub struct Line {
     pub count: usize,
     pub next: usize,

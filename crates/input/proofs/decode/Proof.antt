@@ -1,4 +1,5 @@
 -- `input::decode` meets its contract. The loop's invariant: the first k words are those of the input.
+-- Assumes nothing.
 use Prim.Native.Nat.{ℕ, _*_, _/_, _-_, _≤_}
 use mathlib.Core.Path.{_≡_, refl, sym, _∙_}
 use borrow.Author.Needs.{needs}
@@ -32,8 +33,11 @@ decode-spec =
     (λ c. search needs)
     (λ c. search needs)
     (λ c.
-    let l = c .before .before .loop in
-    (omega arith, length-set (l .words) (l .k) (c .word-at .result) ∙ l .inv .1, tabulate-turn _ (l .words) (l .k) _ (omega arith) (l .inv .2) (c .word-at .ensures)))
+    let l = c .before .before .loop in (
+      omega arith,
+      length-set (l .words) (l .k) (c .word-at .result) ∙ l .inv .1,
+      tabulate-turn _ (l .words) (l .k) _ (omega arith) (l .inv .2) (c .word-at .ensures),
+    ))
     (λ c. search needs)
     (λ c.
     let l = c .before .loop in

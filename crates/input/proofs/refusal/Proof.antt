@@ -1,4 +1,5 @@
 -- `input::refusal` meets its contract.
+-- Assumes nothing.
 use mathlib.Core.Bool.{true, false}
 use borrow.Author.Needs.{needs}
 use Rattle.input.proofs.Words.{inputRefusal-is}

@@ -1,4 +1,5 @@
 -- `input::word_at` meets its contract: four bytes, the lowest first.
+-- Assumes nothing.
 use borrow.Author.Needs.{needs}
 use native.Mathlib.Omega.{arith}
 use Rattle.input.proofs.word_at.Statement.{statement}

@@ -1,4 +1,5 @@
 -- `text::put_byte` meets its contract.
+-- Assumes nothing.
 use borrow.Author.Needs.{needs}
 use Rattle.text.proofs.Buffer.{put-one}
 use Rattle.text.proofs.put_byte.Statement.{statement}

@@ -1,4 +1,5 @@
 -- `text::put_decimal` meets its contract: the kit's digits are those of `decimal`.
+-- Assumes nothing.
 use mathlib.Core.Path.{ap, _∙_}
 use borrow.Author.Needs.{needs}
 use native.Mathlib.Omega.{arith}

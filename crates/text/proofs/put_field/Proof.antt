@@ -1,4 +1,5 @@
 -- `text::put_field` meets its contract.
+-- Assumes nothing.
 use borrow.Author.Needs.{needs}
 use native.Mathlib.Omega.{arith}
 use Rattle.text.proofs.Buffer.{put-then}

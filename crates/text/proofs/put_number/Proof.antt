@@ -1,4 +1,5 @@
 -- `text::put_number` meets its contract: any number has at most 20 digits.
+-- Assumes nothing.
 use borrow.Author.Needs.{needs}
 use native.Mathlib.Omega.{arith}
 use Rattle.text.proofs.Digits.{decimal-bound, ended-bound}

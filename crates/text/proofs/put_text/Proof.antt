@@ -1,4 +1,5 @@
 -- `text::put_text` meets its contract. The loop's invariant: the first i bytes are put.
+-- Assumes nothing.
 use Prim.Native.Nat.{_+_, _-_, _≤_}
 use mathlib.Core.Path.{_≡_, refl}
 use borrow.Author.Needs.{needs}

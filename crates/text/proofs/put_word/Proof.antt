@@ -1,4 +1,5 @@
 -- `text::put_word` meets its contract: a word has at most 10 digits.
+-- Assumes nothing.
 use borrow.Author.Needs.{needs}
 use native.Mathlib.Omega.{arith}
 use Rattle.text.proofs.Digits.{decimal-bound, ended-bound}

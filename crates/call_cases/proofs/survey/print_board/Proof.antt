@@ -16,8 +16,14 @@ room c κs =
     let square : n * n ≤ 4096 = square-fits (start .pre .tasks .1) in
     (start .pre, omega arith, omega (arith, start .pre .tasks), λ wanted. omega (arith, square, start .pre .tasks))
 
+rows : tie.Need-print-overheads-requires
+rows c κs =
+    let n = c .before .before .before .before .before .before .before .before .index .result in
+    let small : n ≤ 64 = omega arith in
+    omega (arith, square-fits small)
+
 pub print-board-spec : {M : Type 1} → statement M
 print-board-spec =
     tie.close
-    (tie.spec (λ c κs. search needs) (λ c κs. search needs) (λ c. search needs) room (λ c κs. search needs) (λ c. search needs) (λ c κs. search needs)
+    (tie.spec (λ c κs. search needs) (λ c κs. search needs) (λ c. search needs) room (λ c κs. search needs) (λ c. search needs) rows
     (λ c κs. search needs) (λ c. search needs))

@@ -43,8 +43,11 @@ stores c = let at = c .before .before in omega (arith, ap length (at .loop .inv 
 again : tie.Need-loop-again Inv μ
 again c =
     let at = c .before .before in
-    let a = at .before .before .before .before .args in
-    (search needs, within-next _ _ _ (words c), fillTo-turn (tableWord (now (a .board))) (now (a .records)) (at .loop .w) (at .loop .inv .2) (ap (λ l. getD l (at .loop .w % recordWords) 0) (words c)))
+    let a = at .before .before .before .before .args in (
+      search needs,
+      within-next _ _ _ (words c),
+      fillTo-turn (tableWord (now (a .board))) (now (a .records)) (at .loop .w) (at .loop .inv .2) (ap (λ l. getD l (at .loop .w % recordWords) 0) (words c)),
+    )
 
 same-length : tie.Need-same-length Inv μ
 same-length c = ap length (c .before .loop .inv .2) ∙ length-fillTo _ _ _
@@ -58,5 +61,5 @@ returns c =
 pub fill-spec : {M : Type 1} → statement M
 fill-spec =
     tie.close
-    (tie.spec Inv μ (λ c. search needs) holds ready (λ c κs. search needs) (λ c. search needs) (λ c. search needs) (λ c. search needs) stores (λ c. search needs)
-    (λ c. search needs) again same-length returns)
+    (tie.spec Inv μ (λ c. search needs) holds ready (λ c κs. search needs) (λ c. search needs) (λ c. search needs) (λ c. search needs) stores
+    (λ c. search needs) (λ c. search needs) again same-length returns)
