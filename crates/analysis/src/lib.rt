@@ -7,7 +7,6 @@ use answers::finish;
 use answers::finish_figures;
 use calls::check_analyse;
 use calls::check_figures;
-use folds::wide;
 use refusals::Verdict;
 ghost use mathlib.Core.Path.{_≡_};
 ghost use lib.ListN.{length};
@@ -70,7 +69,7 @@ pub fn overhead(board: &[u32], i: usize, j: usize) -> Outcome
     ensures { λ r. ⌜ r ≡ overheadAnswer (now (board .entry)) i j ⌝ }
 {
     match calls::check_overhead(board, i, j) {
-        Verdict::Passed => Outcome::Value(wide(figures::survey::overhead(board, i - 1, j - 1))),
+        Verdict::Passed => Outcome::Value(answers::taken::overhead(board, i, j)),
         Verdict::Refused(number, place) => Outcome::Refused(number, place),
     }
 }

@@ -2,15 +2,17 @@
 use crate::Answer;
 use board::MOST_SCRATCH;
 use folds::index;
+use folds::wide;
 use settling::Passes;
 ghost use mathlib.Core.Path.{_≡_};
 ghost use Prim.Native.Nat.{_-_, _≤_};
 ghost use lib.ListN.{length, take};
+ghost use Rattle.figures.specs.Overhead.{γ};
 ghost use Rattle.sums.specs.Sums.{taskSum};
 ghost use Rattle.passes.specs.Passes.{pass};
 ghost use Rattle.one_pass.specs.System.{system};
 ghost use Rattle.scratch.specs.Scratch.{Passable, Prepared};
-ghost use Rattle.calls.specs.Accepted.{WeighTaken};
+ghost use Rattle.calls.specs.Accepted.{OverheadTaken, WeighTaken};
 ghost use Rattle.answers.specs.Concluded.{answerOf, timesOf, Concluded};
 
 // The answer, from the passes that were made over the first n words of the scratch. The settled times are in the buffer where they are the answer.
@@ -60,4 +62,12 @@ pub fn sum(board: &[u32], times: &[u32], i: usize) -> u64
     let mut sets = [0u64; 256];
     scratch::prepare(board, n, &mut words, &mut sets);
     scratch::sum_of(board, n, &words, times, i - 1)
+}
+
+// γ(i, j), of tasks that are numbers from 1.
+pub fn overhead(board: &[u32], i: usize, j: usize) -> u64
+    requires { ⌜ OverheadTaken (now board) i j ⌝ }
+    ensures { λ r. ⌜ r ≡ γ (now (board .entry)) (i - 1) (j - 1) ⌝ }
+{
+    wide(figures::survey::overhead(board, i - 1, j - 1))
 }

@@ -1,7 +1,6 @@
 -- `analysis::overhead` meets its contract.
 -- Assumes nothing.
 use mathlib.Core.Path.{_≡_, sym, _∙_}
-use native.Mathlib.Omega.{arith}
 use borrow.Author.Needs.{needs}
 use Rattle.refusals.specs.declared.Verdict.the-variants.{Passed}
 use Rattle.calls.proofs.Accepted.{overhead-taken}
@@ -25,10 +24,7 @@ overhead-spec =
     (tie.spec
     (λ c κs. search needs)
     (λ c. search needs)
-    (λ c. let taken = overhead-taken _ _ _ (passed c) in omega arith)
-    (λ c. let taken = overhead-taken _ _ _ (passed c) in omega arith)
-    (λ c κs. let taken = overhead-taken _ _ _ (passed c) in (taken .sound, omega arith, omega arith))
-    (λ c κs. search needs)
+    (λ c κs. overhead-taken _ _ _ (passed c))
     (λ c. search needs)
-    (λ c. outcome-value _ (passed (c .before .before)) (c .wide .ensures .0 ∙ c .before .overhead .ensures))
+    (λ c. outcome-value _ (passed (c .before)) (c .overhead .ensures))
     (λ c. outcome-refused _ (sym (c .before .before .before .check-overhead .ensures) ∙ c .before .number .given .1)))
