@@ -3,6 +3,9 @@ pub mod Demand
 pub mod Table
 pub mod Steps
 pub mod Loans
+pub mod Cells
 pub mod Extras
 pub mod Filling
-pub mod Shell
+pub mod Buffers
+pub mod Frame
+pub mod Walk

@@ -1,12 +1,6 @@
 // The four public calls: figures, overhead, weigh and analyse.
 use answers::Answer;
 use answers::Outcome;
-use answers::begin;
-use answers::begin_figures;
-use answers::finish;
-use answers::finish_figures;
-use calls::check_analyse;
-use calls::check_figures;
 use refusals::Verdict;
 ghost use mathlib.Core.Path.{_≡_};
 ghost use lib.ListN.{length};
@@ -30,12 +24,20 @@ pub fn analyse(
     ensures demand3 { λ r. ⌜ (analyseRefusal (now (board .entry)) (length (now (times .entry))) (length (now (scratch .entry))) (length (now (table .entry))) ≡ Passed
         → Demand3 (system (now (board .entry))) (passLimit (now (board .entry))) r (now (times .exit))) ⌝ }
 {
-    let verdict = check_analyse(board, times.len(), scratch.len(), table.len());
+    let mut n: usize = 0;
     let mut words = [0u32; 256];
     let mut sets = [0u64; 256];
-    let n = begin(board, verdict, scratch, &mut words, &mut sets);
+    let answer = answers::analyse(
+        board,
+        times,
+        scratch,
+        table.len(),
+        &mut n,
+        &mut words,
+        &mut sets,
+    );
     table::fill(board, n, &words, &sets, table);
-    finish(board, verdict, times, scratch)
+    answer
 }
 
 // `analyse` for callers that want no figures: as with a table of 64 records.
@@ -44,11 +46,10 @@ pub fn analyse_alone(board: &[u32], times: &mut [u32], scratch: &mut [u32]) -> A
     ensures times { λ r. ⌜ now (times .exit) ≡ timesAfter (now (board .entry)) r (now (times .entry)) ⌝ }
     ensures scratch { λ _. ⌜ ScratchAfter (analyseRefusal (now (board .entry)) (length (now (times .entry))) (length (now (scratch .entry))) 64) (now (scratch .entry)) (now (scratch .exit)) ⌝ }
 {
-    let verdict = check_analyse(board, times.len(), scratch.len(), 64);
+    let mut n: usize = 0;
     let mut words = [0u32; 256];
     let mut sets = [0u64; 256];
-    begin(board, verdict, scratch, &mut words, &mut sets);
-    finish(board, verdict, times, scratch)
+    answers::analyse(board, times, scratch, 64, &mut n, &mut words, &mut sets)
 }
 
 // The figures of every task, one record a task; the later records are untouched. Answers the number of records filled.
@@ -56,12 +57,12 @@ pub fn figures(board: &[u32], table: &mut [figures::Figure]) -> Outcome
     ensures answer { λ r. ⌜ r ≡ figuresAnswer (now (board .entry)) (length (now (table .entry))) ⌝ }
     ensures table { λ _. ⌜ now (table .exit) ≡ tableAfter (now (board .entry)) (figuresRefusal (now (board .entry)) (length (now (table .entry)))) (now (table .entry)) ⌝ }
 {
-    let verdict = check_figures(board, table.len());
+    let mut n: usize = 0;
     let mut words = [0u32; 256];
     let mut sets = [0u64; 256];
-    let n = begin_figures(board, verdict, &mut words, &mut sets);
+    let outcome = answers::figures(board, table.len(), &mut n, &mut words, &mut sets);
     table::fill(board, n, &words, &sets, table);
-    finish_figures(verdict, n)
+    outcome
 }
 
 // The pre-emption overhead γ(i, j); tasks are their numbers from 1.

@@ -1,6 +1,6 @@
 -- What a call answers and leaves, by what its checks say.
 -- Assumes nothing.
-use Prim.Native.Nat.{ℕ, _+_, _*_, _≤_, _<_}
+use Prim.Native.Nat.{ℕ, _+_, _*_, _≤_}
 use mathlib.Core.List.{List}
 use mathlib.Core.Path.{_≡_, refl, sym, ap, subst, _∙_}
 use native.Mathlib.Omega.{arith}
@@ -39,11 +39,6 @@ module _ (b : List ℕ) {v : Verdict} where
 pub records-room : (b : List ℕ) (v : Verdict) {n room : ℕ} → n ≡ recordsOf v b → (v ≡ Passed → tasks b ≤ room) → n ≤ room
 records-room b Passed e fits = omega (arith, e, fits refl)
 records-room b (Refused number place) e fits = omega arith
-
--- their number is the value that `figures` answers
-pub records-value : (b : List ℕ) (v : Verdict) {n : ℕ} → n ≡ recordsOf v b → unlessRefused v n ≡ unlessRefused v (tasks b)
-records-value b Passed e = ap (λ (k : ℕ). unlessRefused Passed k) e
-records-value b (Refused number place) e = refl
 
 -- ---- a scratch of so many words has room for the tasks
 

@@ -1,17 +1,24 @@
--- What is known of a call that its checks give the verdict v, once its figures are worked out.
+-- What is known of a call that its checks give the verdict v, once its figures are worked out, and of Analyse once all but its table is done.
 -- Assumes nothing.
 use Prim.Native.Nat.{ℕ}
 use mathlib.Core.List.{List}
 use mathlib.Core.Path.{_≡_}
+use lib.ListN.{length}
 use Rattle.refusals.specs.declared.Verdict.{Verdict}
 use Rattle.refusals.specs.declared.Verdict.the-variants.{Passed}
-use Rattle.figures.specs.Survey.{Fillable}
-use Rattle.answers.specs.Answers.{ScratchAfter}
-use Rattle.answers.specs.Records.{recordsOf}
+use Rattle.answers.specs.declared.Answer.{Answer}
+use Rattle.answers.specs.Refusals.{analyseRefusal}
+use Rattle.answers.specs.Answers.{analyseAnswer, timesAfter, ScratchAfter}
+use Rattle.answers.specs.Records.{Counted}
 
 -- n records are to be filled from the words and the sets; the scratch, which was `old`, is ready for the passes
 pub record Begun (Ready : List ℕ → Type 0) (b : List ℕ) (v : Verdict) (n : ℕ) (old scratch words sets : List ℕ) : Type 0 where
-  pub count : n ≡ recordsOf v b
-  pub fillable : Fillable b n words sets
+  pub counted : Counted v b n words sets
   pub after : ScratchAfter v old scratch
   pub ready : v ≡ Passed → Ready scratch
+
+-- Analyse but for its table of so many records: the answer r, the times buffer and the scratch, which were `times` and `scratch`
+abbrev pub Analysed : List ℕ → List ℕ → List ℕ → ℕ → Answer → List ℕ → List ℕ → Type 0
+Analysed b times scratch room r times' scratch' =
+    (r ≡ analyseAnswer b (length times) (length scratch) room)
+    × ((times' ≡ timesAfter b r times) × ScratchAfter (analyseRefusal b (length times) (length scratch) room) scratch scratch')

@@ -2,10 +2,16 @@
 -- Assumes nothing.
 use Prim.Native.Nat.{ℕ}
 use mathlib.Core.List.{List}
+use mathlib.Core.Path.{_≡_}
 use Rattle.board.specs.Layout.{tasks}
 use Rattle.refusals.specs.declared.Verdict.{Verdict}
 use Rattle.refusals.specs.declared.Verdict.the-variants.{Passed, Refused}
+use Rattle.figures.specs.Survey.{Fillable}
 
 abbrev pub recordsOf : Verdict → List ℕ → ℕ
 recordsOf Passed b = tasks b
 recordsOf (Refused number place) b = 0
+
+-- n records are to be filled, from the figures in the words and the sets
+abbrev pub Counted : Verdict → List ℕ → ℕ → List ℕ → List ℕ → Type 0
+Counted v b n words sets = (n ≡ recordsOf v b) × Fillable b n words sets

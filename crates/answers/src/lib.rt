@@ -1,20 +1,21 @@
-// What the calls answer, and what a call that fills the figures table does once its checks have given a verdict: the figures first, then, past the
-// table, the answer. A refused call writes nothing.
+// What the calls answer, and what a call that fills the figures table does but for the table: `analyse`, `figures`. Then the halves of such a call,
+// by the verdict of its checks: the figures first, then the passes and the answer. A refused call writes nothing.
 pub mod taken;
 
+use calls::check_analyse;
+use calls::check_figures;
 use folds::index;
 use refusals::Verdict;
 ghost use mathlib.Core.Path.{_≡_};
 ghost use Prim.Native.Nat.{_≤_};
 ghost use lib.ListN.{length};
 ghost use Rattle.board.specs.Layout.{tasks};
-ghost use Rattle.board.specs.Sound.{Sound};
 ghost use Rattle.refusals.specs.declared.Verdict.the-variants.{Passed};
-ghost use Rattle.figures.specs.Survey.{Fillable};
 ghost use Rattle.scratch.specs.Scratch.{Room, Prepared};
-ghost use Rattle.answers.specs.Answers.{unlessRefused, answerBy, timesAfter, ScratchAfter};
-ghost use Rattle.answers.specs.Records.{recordsOf};
-ghost use Rattle.answers.specs.Begun.{Begun};
+ghost use Rattle.answers.specs.Refusals.{figuresRefusal, analyseRefusal};
+ghost use Rattle.answers.specs.Answers.{answerBy, figuresAnswer, timesAfter, ScratchAfter};
+ghost use Rattle.answers.specs.Records.{Counted};
+ghost use Rattle.answers.specs.Begun.{Begun, Analysed};
 
 // What `analyse` answers: the passes; the late task and the passes; the limit spent; the number of the refusal and its place.
 pub enum Answer {
@@ -28,6 +29,52 @@ pub enum Answer {
 pub enum Outcome {
     Value(u64),
     Refused(usize, usize),
+}
+
+// Analyse but for its table, which has room for so many records: counted are those to fill, from the words and the sets; none where it is refused.
+pub fn analyse(
+    board: &[u32],
+    times: &mut [u32],
+    scratch: &mut [u32],
+    room: usize,
+    records: &mut usize,
+    words: &mut [u32],
+    sets: &mut [u64; 256],
+) -> Answer
+    requires { ⌜ 256 ≤ length (now words) ⌝ }
+    ensures { λ r. ⌜ (Counted (analyseRefusal (now (board .entry)) (length (now (times .entry))) (length (now (scratch .entry))) room) (now (board .entry))
+        (now (records .exit)) (now (words .exit)) (now (sets .exit)))
+        × (Analysed (now (board .entry)) (now (times .entry)) (now (scratch .entry)) room r (now (times .exit)) (now (scratch .exit))) ⌝ }
+{
+    let verdict = check_analyse(board, times.len(), scratch.len(), room);
+    *records = begin(board, verdict, scratch, words, sets);
+    finish(board, verdict, times, scratch)
+}
+
+// Figures but for its table, likewise.
+pub fn figures(
+    board: &[u32],
+    room: usize,
+    records: &mut usize,
+    words: &mut [u32],
+    sets: &mut [u64; 256],
+) -> Outcome
+    requires { ⌜ 256 ≤ length (now words) ⌝ }
+    ensures { λ r. ⌜ (Counted (figuresRefusal (now (board .entry)) room) (now (board .entry)) (now (records .exit)) (now (words .exit)) (now (sets .exit)))
+        × (r ≡ figuresAnswer (now (board .entry)) room) ⌝ }
+{
+    match check_figures(board, room) {
+        Verdict::Passed => {
+            let n = index(board::fields::tasks(board));
+            figures::survey::survey(board, n, false, words, sets);
+            *records = n;
+            Outcome::Value(n as u64)
+        }
+        Verdict::Refused(number, place) => {
+            *records = 0;
+            Outcome::Refused(number, place)
+        }
+    }
 }
 
 // The figures of every task: in the scratch as the passes read them, and in the words and the sets as the table is filled from them. Answers how many
@@ -63,35 +110,5 @@ pub fn finish(board: &[u32], verdict: Verdict, times: &mut [u32], scratch: &mut 
     match verdict {
         Verdict::Passed => taken::answer(board, index(board::fields::tasks(board)), times, scratch),
         Verdict::Refused(number, place) => Answer::Refused(number, place),
-    }
-}
-
-// The figures of every task, for a call that makes no passes.
-pub fn begin_figures(
-    board: &[u32],
-    verdict: Verdict,
-    words: &mut [u32],
-    sets: &mut [u64; 256],
-) -> usize
-    requires { ⌜ (verdict ≡ Passed → Sound (now board)) × (256 ≤ length (now words)) ⌝ }
-    ensures { λ r. ⌜ (r ≡ recordsOf verdict (now (board .entry))) × Fillable (now (board .entry)) r (now (words .exit)) (now (sets .exit)) ⌝ }
-{
-    match verdict {
-        Verdict::Passed => {
-            let n = index(board::fields::tasks(board));
-            figures::survey::survey(board, n, false, words, sets);
-            n
-        }
-        Verdict::Refused(_, _) => 0,
-    }
-}
-
-// What `figures` answers, once n records are filled.
-pub fn finish_figures(verdict: Verdict, n: usize) -> Outcome
-    ensures { λ r. ⌜ r ≡ unlessRefused verdict n ⌝ }
-{
-    match verdict {
-        Verdict::Passed => Outcome::Value(n as u64),
-        Verdict::Refused(number, place) => Outcome::Refused(number, place),
     }
 }

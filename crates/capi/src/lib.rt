@@ -24,12 +24,12 @@ pub extern "C" fn zuzgravel_figures(board: &[u32], records: &mut [u32], numbers:
     ensures records { λ _. ⌜ now (records .exit) ≡ recordsAfter (now (board .entry))
         (figuresRefusal (now (board .entry)) (length (now (records .entry)) / 13)) (now (records .entry)) ⌝ }
 {
-    let verdict = calls::check_figures(board, records.len() / 13);
+    let mut n: usize = 0;
     let mut words = [0u32; 256];
     let mut sets = [0u64; 256];
-    let n = answers::begin_figures(board, verdict, &mut words, &mut sets);
+    let outcome = answers::figures(board, records.len() / 13, &mut n, &mut words, &mut sets);
     fill(board, n, &words, &sets, records);
-    of_outcome(answers::finish_figures(verdict, n), numbers)
+    of_outcome(outcome, numbers)
 }
 
 // Overhead: the value is γ(i, j); tasks are their numbers from 1.
@@ -84,10 +84,11 @@ pub extern "C" fn zuzgravel_analyse(
         (analyseAnswer (now (board .entry)) (length (now (times .entry))) (length (now (scratch .entry))) (length (now (records .entry)) / 13))
         (now (times .exit))) ⌝ }
 {
-    let verdict = calls::check_analyse(board, times.len(), scratch.len(), records.len() / 13);
+    let mut n: usize = 0;
     let mut words = [0u32; 256];
     let mut sets = [0u64; 256];
-    let n = answers::begin(board, verdict, scratch, &mut words, &mut sets);
+    let room = records.len() / 13;
+    let answer = answers::analyse(board, times, scratch, room, &mut n, &mut words, &mut sets);
     fill(board, n, &words, &sets, records);
-    of_answer(answers::finish(board, verdict, times, scratch), numbers)
+    of_answer(answer, numbers)
 }
