@@ -1,4 +1,5 @@
 // Call 2: the figures and the overheads of a board, by `figures::survey`.
+use board::MOST_SCRATCH;
 use board::fields;
 use figures::survey::overhead;
 use figures::survey::survey;
@@ -15,9 +16,6 @@ ghost use Prim.Native.Nat.{_+_, _*_, _<_, _≤_};
 ghost use lib.ListN.{length};
 ghost use Rattle.board.specs.Layout.{tasks};
 ghost use Rattle.board.specs.Sound.{Sound};
-
-// The words that the walk takes for 64 tasks.
-const WORDS: usize = 4352;
 
 // A line a task: its number, core, T, D, PD, MD and the words of its ECB. A line a task i: `gamma` and the overheads γ(i, j) of the walk over all tasks.
 // Then `last` and those of the last task, each by a call of its own. Or `bad` with number and place.
@@ -36,7 +34,7 @@ fn print_board(board: &[u32])
     requires { ⌜ Sound (now board) ⌝ }
 {
     let n = index(fields::tasks(board));
-    let mut words = [0u32; WORDS];
+    let mut words = [0u32; MOST_SCRATCH];
     let mut sets = [0u64; 256];
     survey(board, n, true, &mut words, &mut sets);
     print_figures(board, n, &words, &sets);
@@ -44,7 +42,7 @@ fn print_board(board: &[u32])
     print_last(board);
 }
 
-fn print_figures(board: &[u32], n: usize, words: &[u32; WORDS], sets: &[u64; 256])
+fn print_figures(board: &[u32], n: usize, words: &[u32; MOST_SCRATCH], sets: &[u64; 256])
     requires { ⌜ (Sound (now board)) × (n ≡ tasks (now board)) ⌝ }
 {
     let mut k: usize = 0;

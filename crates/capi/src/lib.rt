@@ -2,6 +2,7 @@
 // puts its two numbers into the first two words of `numbers`, as far as there is room.
 use replies::reply::of_answer;
 use replies::reply::of_outcome;
+use replies::table::RECORD_WORDS;
 use replies::table::fill;
 ghost use mathlib.Core.Path.{_≡_};
 ghost use Prim.Native.Nat.{_/_};
@@ -27,7 +28,13 @@ pub extern "C" fn zuzgravel_figures(board: &[u32], records: &mut [u32], numbers:
     let mut n: usize = 0;
     let mut words = [0u32; 256];
     let mut sets = [0u64; 256];
-    let outcome = answers::figures(board, records.len() / 13, &mut n, &mut words, &mut sets);
+    let outcome = answers::figures(
+        board,
+        records.len() / RECORD_WORDS,
+        &mut n,
+        &mut words,
+        &mut sets,
+    );
     fill(board, n, &words, &sets, records);
     of_outcome(outcome, numbers)
 }
@@ -87,7 +94,7 @@ pub extern "C" fn zuzgravel_analyse(
     let mut n: usize = 0;
     let mut words = [0u32; 256];
     let mut sets = [0u64; 256];
-    let room = records.len() / 13;
+    let room = records.len() / RECORD_WORDS;
     let answer = answers::analyse(board, times, scratch, room, &mut n, &mut words, &mut sets);
     fill(board, n, &words, &sets, records);
     of_answer(answer, numbers)

@@ -5,7 +5,7 @@ use mathlib.Core.List.{List}
 use mathlib.Core.Path.{_≡_, refl, sym, ap, _∙_}
 use native.Mathlib.Omega.{arith}
 use lib.ListN.{length}
-use Rattle.board.specs.Layout.{tasks}
+use Rattle.board.specs.Layout.{tasks, mostTasks, mostScratch}
 use Rattle.board.specs.Sound.{Sound}
 use Rattle.refusals.specs.declared.Verdict.{Verdict}
 use Rattle.refusals.specs.declared.Verdict.the-variants.{Passed, Refused as Verdict·Refused}
@@ -18,7 +18,7 @@ use Rattle.input.specs.Input.{wordsIn, inputRefusal}
 use Rattle.answer_page.specs.AnswerPage.{badLine, answerPage}
 use Rattle.answer_page.specs.Printable.{Printable}
 use Rattle.answer_page.proofs.Answers.{printable-as}
-use Rattle.page.specs.Page.{mostTasks, lentTimes, lentScratch, boardPage, pageBy, pageOf}
+use Rattle.page.specs.Page.{lentTimes, boardPage, pageBy, pageOf}
 
 -- what Analyse answers can be printed: where it does not refuse, the board is sound and each task has a time
 module _ (b R : List ℕ) where
@@ -43,7 +43,7 @@ module _ (b R : List ℕ) where
     analyse-printable e = printable-as b R (sym e) (by-verdict (analyseRefusal b times scratch table) refl)
 
 -- the page of Analyse's answer is the board's
-pub boardPage-is : (b R : List ℕ) (r : Answer) → r ≡ analyseAnswer b mostTasks lentScratch mostTasks → R ≡ timesAfter b r lentTimes
+pub boardPage-is : (b R : List ℕ) (r : Answer) → r ≡ analyseAnswer b mostTasks mostScratch mostTasks → R ≡ timesAfter b r lentTimes
     → answerPage b R r ≡ boardPage b
 unfolding boardPage
 boardPage-is b R r e h = rw (h, e)

@@ -9,14 +9,11 @@ ghost use Rattle.text.specs.Buffer.{Put};
 ghost use Rattle.page.specs.Page.{boardPage, pageOf};
 use answer_page::answer_page;
 use answer_page::pair_line;
+use board::MOST_SCRATCH;
+use board::MOST_TASKS;
 use input::decode;
 use input::refusal;
 use refusals::Verdict;
-
-// The most tasks that a board can have, and the scratch for so many.
-const MOST_TASKS: usize = 64;
-
-const LENT_SCRATCH: usize = MOST_TASKS * MOST_TASKS + 4 * MOST_TASKS;
 
 // Reads the input until its end, a failed read or 65,537 bytes, and writes its page.
 pub fn run(from: i32, to: i32) {
@@ -63,7 +60,7 @@ pub fn board_page(out: &mut [u8], board: &[u32]) -> usize
     ensures { λ r. ⌜ Counts r (now (out .exit)) ⌝ }
 {
     let mut times = [0u32; MOST_TASKS];
-    let mut scratch = [0u32; LENT_SCRATCH];
+    let mut scratch = [0u32; MOST_SCRATCH];
     let answer = analysis::analyse_alone(board, &mut times, &mut scratch);
     answer_page(out, board, &times, answer)
 }
