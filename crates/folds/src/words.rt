@@ -10,10 +10,10 @@ pub fn clear(n: usize, words: &mut [u32])
     requires { ⌜ n ≤ length (now words) ⌝ }
     ensures { λ _. ⌜ now (words .exit) ≡ fillTo (λ k. 0) n (now (words .entry)) ⌝ }
 {
-    let mut k = 0;
-    while k < n {
-        words[k] = 0;
-        k += 1;
+    let mut i = 0;
+    while i < n {
+        words[i] = 0;
+        i += 1;
     }
 }
 
@@ -34,9 +34,9 @@ pub fn copy_at(n: usize, from: &[u32], to: &mut [u32], at: usize)
     requires { ⌜ (n ≤ length (now from)) × (at + n ≤ length (now to)) ⌝ }
     ensures { λ _. ⌜ Stored (λ k. getD (now (from .entry)) k 0) at n (now (to .entry)) (now (to .exit)) ⌝ }
 {
-    let mut k = 0;
-    while k < n {
-        to[at + k] = from[k];
-        k += 1;
+    let mut j = 0;
+    while j < n {
+        to[at + j] = from[j];
+        j += 1;
     }
 }
