@@ -3,7 +3,7 @@
 use Prim.Native.Nat.{ℕ, zero, suc, _+_, _*_, _≤_, _<_, zero-le, max}
 use mathlib.Core.Bool.{Bool, true, false, _||_}
 use mathlib.Core.Logic.{_⊎_, inl, inr, ⊎-elim}
-use mathlib.Core.Path.{_≡_, refl, sym, ap, ap₂}
+use mathlib.Core.Path.{_≡_, refl, sym, ap, ap₂, _∙_}
 use native.Mathlib.Nat.{le-refl, le-trans, eq-or-lt-of-le, le-of-suc-le-suc, not-suc-le-zero, suc-mul, add-mul, zero-mul, mul-one, add-zero, add-suc, add-assoc}
 use native.Mathlib.Numerals.{add-one}
 use native.Mathlib.Omega.{arith}
@@ -90,6 +90,27 @@ sumTo-but f g (suc n) s l same =
     (λ (e : s ≡ n). omega (arith, sumTo-cong f g n (λ k h. same k (omega arith) (λ q. omega arith)), ap f e, ap g e))
     (λ (lt : s < n). omega (arith, sumTo-but f g n s lt (λ k h ne. same k (omega arith) ne), same n (omega arith) (λ q. omega arith)))
     (eq-or-lt-of-le (le-of-suc-le-suc l))
+
+-- two sums, one within the other, the other way round
+pub sumTo-swap : (f : ℕ → ℕ → ℕ) (n m : ℕ) → sumTo (λ i. sumTo (λ k. f i k) m) n ≡ sumTo (λ k. sumTo (λ i. f i k) n) m
+unfolding sumTo
+sumTo-swap f zero m = sym (sumTo-zero (λ k. 0) m (λ k h. refl))
+sumTo-swap f (suc n) m =
+    ap (λ (s : ℕ). s + sumTo (λ k. f n k) m) (sumTo-swap f n m) ∙ sym (sumTo-add (λ k. sumTo (λ i. f i k) n) (λ k. f n k) m)
+
+-- n terms of at least 1
+pub sumTo-least : (f : ℕ → ℕ) (n : ℕ) → ((k : ℕ) → k < n → 1 ≤ f k) → n ≤ sumTo f n
+unfolding sumTo
+sumTo-least f zero all = zero-le
+sumTo-least f (suc n) all = omega (arith, sumTo-least f n (λ k h. all k (omega arith)), all n (omega arith))
+
+-- all terms but one are 0
+pub sumTo-one : (f : ℕ → ℕ) (n s : ℕ) → s < n → ((k : ℕ) → k < n → (k ≡ s → ⊥) → f k ≡ 0) → sumTo f n ≡ f s
+sumTo-one f n s l none = omega (arith, sumTo-but f (λ _. 0) n s l none, sumTo-zero (λ _. 0) n (λ k h. refl))
+
+pub when-sum : (test : Bool) (f : ℕ → ℕ) (n : ℕ) → when test (sumTo f n) ≡ sumTo (λ k. when test (f k)) n
+when-sum true f n = refl
+when-sum false f n = sym (sumTo-zero (λ _. 0) n (λ k h. refl))
 
 -- ---- `sumWhere`
 

@@ -10,20 +10,7 @@ use lib.Dec.{eqb}
 use borrow.Author.Tests.{eqb-true, eq-eqb}
 use Rattle.folds.specs.Folds.{when, sumTo, countTo}
 use Rattle.folds.proofs.Numbers.{below-suc}
-use Rattle.folds.proofs.Folds.{sumTo-none, sumTo-next, sumTo-cong, sumTo-add, sumTo-zero, sumTo-bound, sumTo-below, sumTo-tight, none-or-some, countTo-none, countTo-next, countTo-zero}
-
--- two sums, one within the other, the other way round
-pub sumTo-swap : (f : ℕ → ℕ → ℕ) (n m : ℕ) → sumTo (λ i. sumTo (λ k. f i k) m) n ≡ sumTo (λ k. sumTo (λ i. f i k) n) m
-unfolding sumTo
-sumTo-swap f zero m = sym (sumTo-zero (λ k. 0) m (λ k h. refl))
-sumTo-swap f (suc n) m =
-    ap (λ (s : ℕ). s + sumTo (λ k. f n k) m) (sumTo-swap f n m) ∙ sym (sumTo-add (λ k. sumTo (λ i. f i k) n) (λ k. f n k) m)
-
--- n terms of at least 1
-pub sumTo-least : (f : ℕ → ℕ) (n : ℕ) → ((k : ℕ) → k < n → 1 ≤ f k) → n ≤ sumTo f n
-unfolding sumTo
-sumTo-least f zero all = zero-le
-sumTo-least f (suc n) all = omega (arith, sumTo-least f n (λ k h. all k (omega arith)), all n (omega arith))
+use Rattle.folds.proofs.Folds.{sumTo-none, sumTo-next, sumTo-cong, sumTo-zero, sumTo-bound, sumTo-below, sumTo-tight, sumTo-swap, sumTo-least, none-or-some, countTo-none, countTo-next, countTo-zero}
 
 module _ (f : ℕ → ℕ) (n : ℕ) (within : (k : ℕ) → k < n → f k < n) (differ : (j k : ℕ) → j < k → k < n → f j ≡ f k → ⊥) where
   -- the places of the value i

@@ -12,13 +12,12 @@ use lib.ListN.{getD, set, replicate, length-set, length-replicate, getD-replicat
 use lib.Seq.{getD-set-same, getD-set-other}
 use borrow.Author.Tests.{eq-eqb, ne-eqb}
 use Rattle.folds.specs.Folds.{when, sumTo}
-use Rattle.folds.proofs.Folds.{sumTo-none, sumTo-next, sumTo-cong}
+use Rattle.folds.proofs.Folds.{sumTo-none, sumTo-next, sumTo-cong, when-sum}
 use Rattle.board.specs.Layout.{cores, slots, core}
 use Rattle.sums.specs.Sums.{lowest, ownAccesses, carryIn, coreAccesses, interference}
 use Rattle.sums.specs.Limits.{mostCores}
 use Rattle.sums.specs.Inputs.{Holds}
 use Rattle.interference.specs.Terms.{carriedFrom}
-use Rattle.interference.proofs.Cores.{when-sum}
 
 -- ---- a table of n sums, place z having those k that stand at z + 1: no k yet, one more k, and all k below m
 

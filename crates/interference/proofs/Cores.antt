@@ -12,26 +12,9 @@ use lib.Dec.{eqb, ltb}
 use borrow.Author.Tests.{lt-ltb, le-ltb, eq-eqb, ne-eqb}
 use Rattle.folds.specs.Folds.{when, sumTo, sumWhere}
 use Rattle.folds.proofs.Numbers.{le-or-lt}
-use Rattle.folds.proofs.Folds.{sumTo-cong, sumTo-add, sumTo-zero, sumTo-but}
+use Rattle.folds.proofs.Folds.{sumTo-cong, sumTo-add, sumTo-swap, sumTo-one, when-sum}
 use Rattle.board.specs.Layout.{cores, core}
 use Rattle.sums.specs.Sums.{overCores}
-
--- ---- any sums
-
-sumTo-swap : (f : ℕ → ℕ → ℕ) (m n : ℕ) → sumTo (λ y. sumTo (λ k. f y k) n) m ≡ sumTo (λ k. sumTo (λ y. f y k) m) n
-unfolding sumTo
-sumTo-swap f m zero = sumTo-zero (λ y. 0) m (λ y h. refl)
-sumTo-swap f m (suc n) = sumTo-add (λ y. sumTo (λ k. f y k) n) (λ y. f y n) m ∙ ap (λ (s : ℕ). s + sumTo (λ y. f y n) m) (sumTo-swap f m n)
-
--- all terms but one are 0
-sumTo-one : (f : ℕ → ℕ) (n s : ℕ) → s < n → ((k : ℕ) → k < n → (k ≡ s → ⊥) → f k ≡ 0) → sumTo f n ≡ f s
-sumTo-one f n s l none = omega (arith, sumTo-but f (λ _. 0) n s l none, sumTo-zero (λ _. 0) n (λ k h. refl))
-
-pub when-sum : (test : Bool) (f : ℕ → ℕ) (n : ℕ) → when test (sumTo f n) ≡ sumTo (λ k. when test (f k)) n
-when-sum true f n = refl
-when-sum false f n = sym (sumTo-zero (λ _. 0) n (λ k h. refl))
-
--- ---- cores
 
 -- a task on core c, by the cores that pass the test
 one-core : (test : ℕ → Bool) (p : Bool) (c v n : ℕ) → 1 ≤ c → c ≤ n
