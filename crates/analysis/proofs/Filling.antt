@@ -63,7 +63,8 @@ module _ (b : List ℕ) (table : List Figure) where
 module _ {M : Type 1} (𝓤 : URA M) (H : Heap 𝓤) (A : Atoms 𝓤) (at-mem : Memory → SProp 𝓤) (run : Routine → Fun 𝓤) (κ₀ κ₁ κ₂ κ₃ : Lft) (q₀ q₁ q₂ q₃ : Share)
     (b w e : RefT (List ℕ)) (f : RefT (List Figure)) (r : ℕ) (u : Val) where
   abbrev pub to-fill : Fills 𝓤 H A at-mem run .Ghost
-  to-fill = (((κ₀, (κ₁, (κ₂, (κ₃, tt)))), (q₀, (q₁, (q₂, (q₃, tt)))), tt, (b, (r, (w, (e, (f, tt))))), (val b ∷ [], (u ∷ [], (val w ∷ [], (pointer e ∷ [], (val f ∷ [], tt)))))), tt)
+  to-fill =
+      (((κ₀, (κ₁, (κ₂, (κ₃, tt)))), (q₀, (q₁, (q₂, (q₃, tt)))), tt, (b, (r, (w, (e, (f, tt))))), (val b ∷ [], (u ∷ [], (val w ∷ [], (pointer e ∷ [], (val f ∷ [], tt)))))), tt)
 
   -- what the references own
   abbrev OwnB : Fml

@@ -7,5 +7,6 @@ pub mod Cells
 pub mod Extras
 pub mod Filling
 pub mod Buffers
+pub mod Work
 pub mod Frame
 pub mod Walk

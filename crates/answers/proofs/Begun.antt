@@ -17,7 +17,7 @@ use Rattle.calls.specs.Accepted.{AnalyseTaken}
 use Rattle.answers.specs.Answers.{ScratchAfter}
 use Rattle.answers.specs.Records.{Counted}
 use Rattle.answers.specs.Begun.{Begun}
-use Rattle.answers.proofs.Outcomes.{tasks-records, none-records, room-for}
+use Rattle.answers.proofs.Outcomes.{tasks-records, none-records, records-room, room-for}
 
 -- a refusal is no pass
 abbrev passes : Verdict → ℕ
@@ -48,7 +48,8 @@ module _ {b : List ℕ} {v : Verdict} {old : List ℕ} where
       let few : 4 * n ≤ 256 = omega (arith, all, made .0 .room .sound .tasks) in
       let size : length words ≡ length free = ap length copied ∙ length-fillTo (λ k. getD new k 0) free (4 * n) in
       record {
-        counted = (tasks-records b e all, fillable-tasks (made .0 .room .sound) all (omega (arith, few, size, room)) (held-copied free (omega arith) copied (made .2)));
+        count = tasks-records b e all;
+        fillable = fillable-tasks (made .0 .room .sound) all (omega (arith, few, size, room)) (held-copied free (omega arith) copied (made .2));
         after = subst (λ (w : Verdict). ScratchAfter w old new) (sym e) (made .1);
         ready = λ _. subst (λ (m : ℕ). Prepared b m new) all (made .0);
       }
@@ -56,7 +57,8 @@ module _ {b : List ℕ} {v : Verdict} {old : List ℕ} where
   pub begun-none : {Ready : List ℕ → Type 0} {number place : ℕ} {words sets : List ℕ} → v ≡ Refused number place → Begun Ready b v 0 old old words sets
   begun-none e =
       record {
-        counted = (none-records b e, fillable-none);
+        count = none-records b e;
+        fillable = fillable-none;
         after = subst (λ (w : Verdict). ScratchAfter w old old) (sym e) refl;
         ready = λ passed. absurd (refused-not-passed (sym e ∙ passed));
       }
@@ -75,8 +77,8 @@ after-both (Refused number place) old mid new e h = h ∙ e
 
 -- the records; the answer r, what else is known of it, and the scratch
 module _ {Ready : List ℕ → Type 0} {b : List ℕ} {v v' : Verdict} {n : ℕ} {old mid words sets : List ℕ} (judged : v ≡ v') (begun : Begun Ready b v n old mid words sets) where
-  pub counted : Counted v' b n words sets
-  counted = subst (λ (w : Verdict). Counted w b n words sets) judged (begun .counted)
+  pub counted : {room : ℕ} → (v ≡ Passed → tasks b ≤ room) → Counted v' b room n words sets
+  counted {room} fits = subst (λ (w : Verdict). Counted w b room n words sets) judged (begun .count, (begun .fillable, records-room b v (begun .count) fits))
 
   pub joined : {X : Type 0} (Give : Verdict → X) {r : X} {P : Type 0} (new : List ℕ) → (r ≡ Give v) × (P × ScratchAfter v mid new)
       → (r ≡ Give v') × (P × ScratchAfter v' old new)

@@ -6,14 +6,16 @@ use mathlib.Core.Path.{_≡_}
 use lib.ListN.{length}
 use Rattle.refusals.specs.declared.Verdict.{Verdict}
 use Rattle.refusals.specs.declared.Verdict.the-variants.{Passed}
+use Rattle.figures.specs.Survey.{Fillable}
 use Rattle.answers.specs.declared.Answer.{Answer}
 use Rattle.answers.specs.Refusals.{analyseRefusal}
 use Rattle.answers.specs.Answers.{analyseAnswer, timesAfter, ScratchAfter}
-use Rattle.answers.specs.Records.{Counted}
+use Rattle.answers.specs.Records.{recordsOf}
 
 -- n records are to be filled from the words and the sets; the scratch, which was `old`, is ready for the passes
 pub record Begun (Ready : List ℕ → Type 0) (b : List ℕ) (v : Verdict) (n : ℕ) (old scratch words sets : List ℕ) : Type 0 where
-  pub counted : Counted v b n words sets
+  pub count : n ≡ recordsOf v b
+  pub fillable : Fillable b n words sets
   pub after : ScratchAfter v old scratch
   pub ready : v ≡ Passed → Ready scratch
 

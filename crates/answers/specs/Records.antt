@@ -1,6 +1,6 @@
 -- How many records of the figures table a call fills: one a task, and none where it refuses.
 -- Assumes nothing.
-use Prim.Native.Nat.{ℕ}
+use Prim.Native.Nat.{ℕ, _≤_}
 use mathlib.Core.List.{List}
 use mathlib.Core.Path.{_≡_}
 use Rattle.board.specs.Layout.{tasks}
@@ -12,6 +12,6 @@ abbrev pub recordsOf : Verdict → List ℕ → ℕ
 recordsOf Passed b = tasks b
 recordsOf (Refused number place) b = 0
 
--- n records are to be filled, from the figures in the words and the sets
-abbrev pub Counted : Verdict → List ℕ → ℕ → List ℕ → List ℕ → Type 0
-Counted v b n words sets = (n ≡ recordsOf v b) × Fillable b n words sets
+-- n records are to be filled, from the figures in the words and the sets; a table of so many records has room for them
+abbrev pub Counted : Verdict → List ℕ → ℕ → ℕ → List ℕ → List ℕ → Type 0
+Counted v b room n words sets = (n ≡ recordsOf v b) × (Fillable b n words sets × (n ≤ room))

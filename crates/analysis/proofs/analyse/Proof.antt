@@ -13,7 +13,6 @@ use Rattle.table.proofs.fill.Symbol as fill-def
 use Rattle.table.proofs.fill.Symbol.{name as #table·fill}
 use Rattle.table.proofs.fill.Met as fill-thm
 use Rattle.refusals.specs.declared.Verdict.{Verdict}
-use Rattle.calls.proofs.Accepted.{analyse-taken}
 use Rattle.answers.specs.Refusals.{analyseRefusal}
 use Rattle.answers.specs.Begun.{Analysed}
 use Rattle.answers.specs.declared.Answer.{Answer}
@@ -47,7 +46,6 @@ analyse-spec 𝓤 H 𝓜 𝓖 𝓡 =
     entered 𝓤 H (tripleOf 𝓤 H (𝓖 .A) analyse.signature (analyse.spec 𝓤 H (𝓖 .A) (𝓜 .mem) (𝓡 .run)))
     (tables 𝓤 H 𝓜 𝓡 code.env .C) (tables 𝓤 H 𝓜 𝓡 code.env .Λ) #analysis·analyse code.function (code.unfolded 𝓤 H 𝓜 𝓡)
     (meets S.the-row times-and-scratch [] refuse Done S′.mir (λ r u is. EL.lawful S.the-type S′.the-laws 𝓤 H (𝓖 .A) (givenOf 𝓤 H 𝓜 𝓖) tt .typed r _ is .0) #answers·analyse
-    (λ b old table e passed. analyse-taken b (length (old .0)) (length (old .1)) table passed .table)
     𝓤 H (𝓖 .A) (givenOf 𝓤 H 𝓜 𝓖) (𝓜 .mem) (𝓡 .run) (λ κs a. analyse.clauses 𝓤 H (𝓖 .A) (𝓜 .mem) (𝓡 .run) κs a .ensures tt)
     (λ κs a r new fs done table. both 𝓤 (holds 𝓤 (done .0)) (both 𝓤 (holds 𝓤 (done .1 .0)) (both 𝓤 (holds 𝓤 table) (both 𝓤 (holds 𝓤 (done .1 .1))
     (holds 𝓤 (λ passed. demand3-met (now (a .0)) (now (a .1 .0)) _ _ passed r (new .0) (done .0) (done .1 .0)))))))

@@ -42,6 +42,6 @@ analyse-spec =
     let finished = c .before .before .before .before in
     let g = finished .before .before .before .before .before .before .before in
     let judged = checked-of g .check-analyse .ensures in (
-      counted judged (g .begin .ensures),
+      counted judged (g .begin .ensures) (λ passed. taken (checked-of g) passed .table),
       joined judged (g .begin .ensures) (λ v. answerBy v (start-of (checked-of g) .args .board .now)) _ (finished .finish .ensures),
     )))

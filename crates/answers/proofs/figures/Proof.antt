@@ -49,7 +49,7 @@ figures-spec =
     let t = i .before .before in
     let held = held-tasks (all i) (s .survey .ensures .0) in
     let fillable = fillable-tasks (taken t .sound) (all i) (omega (arith, all i, start-of t .pre, s .survey .ensures .2, taken t .sound .tasks)) held in
-    ((tasks-records _ (passed t) (all i), fillable), outcome-value _ (passed t) (all i)))
+    ((tasks-records _ (passed t) (all i), (fillable, omega (arith, all i, taken t .table))), outcome-value _ (passed t) (all i)))
     (λ c.
     let refused = sym (c .before .before .before .check-figures .ensures) ∙ c .before .number .given .1 in
-    ((none-records _ refused, fillable-none), outcome-refused _ refused)))
+    ((none-records _ refused, (fillable-none, omega arith)), outcome-refused _ refused)))

@@ -4,10 +4,7 @@
 use mathlib.Core.Path.{refl, ap, _∙_}
 use native.Mathlib.Omega.{arith}
 use borrow.Author.Needs.{needs}
-use Rattle.calls.proofs.Accepted.{analyse-taken}
-use Rattle.answers.specs.Refusals.{analyseRefusal}
 use Rattle.answers.specs.Answers.{timesAfter}
-use Rattle.answers.proofs.Outcomes.{records-room}
 use Rattle.analysis.proofs.Demand.{demand3-met}
 use Rattle.replies.specs.Replies.{answerCode, answerNumber}
 use Rattle.replies.proofs.Replies.{replies-as}
@@ -35,9 +32,7 @@ zuzgravel-analyse-spec =
     (λ c. search needs)
     (λ c κs. search needs)
     (λ c. search needs)
-    (λ c κs.
-    let counts = c .before .before .before .before .before .before .before .before .analyse .ensures .0 in
-    (counts .1, omega (arith, records-room _ (analyseRefusal _ _ _ _) (counts .0) (λ passed. analyse-taken _ _ _ _ passed .table))))
+    (λ c κs. let counts = c .before .before .before .before .before .before .before .before .analyse .ensures .0 in (counts .1 .0, omega (arith, counts .1 .1)))
     (λ c κs. search needs)
     (λ c. search needs)
     (λ c. search needs)

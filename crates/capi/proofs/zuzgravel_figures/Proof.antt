@@ -2,9 +2,6 @@
 -- Assumes nothing.
 use native.Mathlib.Omega.{arith}
 use borrow.Author.Needs.{needs}
-use Rattle.calls.proofs.Accepted.{figures-taken}
-use Rattle.answers.specs.Refusals.{figuresRefusal}
-use Rattle.answers.proofs.Outcomes.{records-room}
 use Rattle.replies.specs.Replies.{outcomeCode, outcomeNumber}
 use Rattle.replies.proofs.Replies.{replies-as}
 use Rattle.replies.proofs.Records.{filled-records}
@@ -18,9 +15,7 @@ zuzgravel-figures-spec =
     (λ c. search needs)
     (λ c κs. search needs)
     (λ c. search needs)
-    (λ c κs.
-    let counts = c .before .before .before .before .figures .ensures .0 in
-    (counts .1, omega (arith, records-room _ (figuresRefusal _ _) (counts .0) (λ passed. figures-taken _ _ passed .table))))
+    (λ c κs. let counts = c .before .before .before .before .figures .ensures .0 in (counts .1 .0, omega (arith, counts .1 .1)))
     (λ c κs. search needs)
     (λ c. search needs)
     (λ c. search needs)
