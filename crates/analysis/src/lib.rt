@@ -17,11 +17,17 @@ pub fn analyse(
     scratch: &mut [u32],
     table: &mut [figures::Figure],
 ) -> Answer
-    ensures answer { λ r. ⌜ r ≡ analyseAnswer (now (board .entry)) (length (now (times .entry))) (length (now (scratch .entry))) (length (now (table .entry))) ⌝ }
+    ensures answer { λ r. ⌜ r ≡ analyseAnswer
+        (now (board .entry)) (length (now (times .entry))) (length (now (scratch .entry))) (length (now (table .entry))) ⌝ }
     ensures times { λ r. ⌜ now (times .exit) ≡ timesAfter (now (board .entry)) r (now (times .entry)) ⌝ }
-    ensures table { λ _. ⌜ now (table .exit) ≡ tableAfter (now (board .entry)) (analyseRefusal (now (board .entry)) (length (now (times .entry))) (length (now (scratch .entry))) (length (now (table .entry)))) (now (table .entry)) ⌝ }
-    ensures scratch { λ _. ⌜ ScratchAfter (analyseRefusal (now (board .entry)) (length (now (times .entry))) (length (now (scratch .entry))) (length (now (table .entry)))) (now (scratch .entry)) (now (scratch .exit)) ⌝ }
-    ensures demand3 { λ r. ⌜ (analyseRefusal (now (board .entry)) (length (now (times .entry))) (length (now (scratch .entry))) (length (now (table .entry))) ≡ Passed
+    ensures table { λ _. ⌜ now (table .exit) ≡ tableAfter (now (board .entry))
+        (analyseRefusal (now (board .entry)) (length (now (times .entry))) (length (now (scratch .entry))) (length (now (table .entry))))
+        (now (table .entry)) ⌝ }
+    ensures scratch { λ _. ⌜ ScratchAfter
+        (analyseRefusal (now (board .entry)) (length (now (times .entry))) (length (now (scratch .entry))) (length (now (table .entry))))
+        (now (scratch .entry)) (now (scratch .exit)) ⌝ }
+    ensures demand3 { λ r. ⌜ (analyseRefusal
+        (now (board .entry)) (length (now (times .entry))) (length (now (scratch .entry))) (length (now (table .entry))) ≡ Passed
         → Demand3 (system (now (board .entry))) (passLimit (now (board .entry))) r (now (times .exit))) ⌝ }
 {
     let mut n: usize = 0;
@@ -44,7 +50,8 @@ pub fn analyse(
 pub fn analyse_alone(board: &[u32], times: &mut [u32], scratch: &mut [u32]) -> Answer
     ensures answer { λ r. ⌜ r ≡ analyseAnswer (now (board .entry)) (length (now (times .entry))) (length (now (scratch .entry))) 64 ⌝ }
     ensures times { λ r. ⌜ now (times .exit) ≡ timesAfter (now (board .entry)) r (now (times .entry)) ⌝ }
-    ensures scratch { λ _. ⌜ ScratchAfter (analyseRefusal (now (board .entry)) (length (now (times .entry))) (length (now (scratch .entry))) 64) (now (scratch .entry)) (now (scratch .exit)) ⌝ }
+    ensures scratch { λ _. ⌜ ScratchAfter (analyseRefusal (now (board .entry)) (length (now (times .entry))) (length (now (scratch .entry))) 64)
+        (now (scratch .entry)) (now (scratch .exit)) ⌝ }
 {
     let mut n: usize = 0;
     let mut words = [0u32; 256];
@@ -55,7 +62,8 @@ pub fn analyse_alone(board: &[u32], times: &mut [u32], scratch: &mut [u32]) -> A
 // The figures of every task, one record a task; the later records are untouched. Answers the number of records filled.
 pub fn figures(board: &[u32], table: &mut [figures::Figure]) -> Outcome
     ensures answer { λ r. ⌜ r ≡ figuresAnswer (now (board .entry)) (length (now (table .entry))) ⌝ }
-    ensures table { λ _. ⌜ now (table .exit) ≡ tableAfter (now (board .entry)) (figuresRefusal (now (board .entry)) (length (now (table .entry)))) (now (table .entry)) ⌝ }
+    ensures table { λ _. ⌜ now (table .exit) ≡ tableAfter (now (board .entry))
+        (figuresRefusal (now (board .entry)) (length (now (table .entry)))) (now (table .entry)) ⌝ }
 {
     let mut n: usize = 0;
     let mut words = [0u32; 256];

@@ -42,8 +42,8 @@ pub fn analyse(
     sets: &mut [u64; 256],
 ) -> Answer
     requires { ⌜ 256 ≤ length (now words) ⌝ }
-    ensures { λ r. ⌜ (Counted (analyseRefusal (now (board .entry)) (length (now (times .entry))) (length (now (scratch .entry))) room) (now (board .entry)) room
-        (now (records .exit)) (now (words .exit)) (now (sets .exit)))
+    ensures { λ r. ⌜ (Counted (analyseRefusal (now (board .entry)) (length (now (times .entry))) (length (now (scratch .entry))) room)
+        (now (board .entry)) room (now (records .exit)) (now (words .exit)) (now (sets .exit)))
         × (Analysed (now (board .entry)) (now (times .entry)) (now (scratch .entry)) room r (now (times .exit)) (now (scratch .exit))) ⌝ }
 {
     let verdict = check_analyse(board, times.len(), scratch.len(), room);
@@ -60,7 +60,8 @@ pub fn figures(
     sets: &mut [u64; 256],
 ) -> Outcome
     requires { ⌜ 256 ≤ length (now words) ⌝ }
-    ensures { λ r. ⌜ (Counted (figuresRefusal (now (board .entry)) room) (now (board .entry)) room (now (records .exit)) (now (words .exit)) (now (sets .exit)))
+    ensures { λ r. ⌜ (Counted (figuresRefusal (now (board .entry)) room)
+        (now (board .entry)) room (now (records .exit)) (now (words .exit)) (now (sets .exit)))
         × (r ≡ figuresAnswer (now (board .entry)) room) ⌝ }
 {
     match check_figures(board, room) {

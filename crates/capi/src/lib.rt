@@ -57,7 +57,8 @@ pub extern "C" fn zuzgravel_weigh(
     numbers: &mut [u64],
 ) -> u32
     ensures code { λ r. ⌜ r ≡ outcomeCode (weighAnswer (now (board .entry)) (now (times .entry)) i) ⌝ }
-    ensures numbers { λ _. ⌜ now (numbers .exit) ≡ fillTo (outcomeNumber (weighAnswer (now (board .entry)) (now (times .entry)) i)) 2 (now (numbers .entry)) ⌝ }
+    ensures numbers { λ _. ⌜ now (numbers .exit) ≡ fillTo
+        (outcomeNumber (weighAnswer (now (board .entry)) (now (times .entry)) i)) 2 (now (numbers .entry)) ⌝ }
 {
     of_outcome(analysis::weigh(board, times, i), numbers)
 }
