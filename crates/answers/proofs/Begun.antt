@@ -13,7 +13,7 @@ use Rattle.refusals.specs.declared.Verdict.the-variants.{Passed, Refused}
 use Rattle.figures.specs.Survey.{Held}
 use Rattle.figures.proofs.Fillable.{fillable-tasks, fillable-none}
 use Rattle.scratch.specs.Scratch.{Room, Prepared}
-use Rattle.calls.specs.Accepted.{AnalyseTaken}
+use Rattle.checks.specs.Accepted.{AnalyseTaken}
 use Rattle.answers.specs.Answers.{ScratchAfter}
 use Rattle.answers.specs.Records.{Counted}
 use Rattle.answers.specs.Begun.{Begun}

@@ -2,8 +2,8 @@
 // by the verdict of its checks: the figures first, then the passes and the answer. A refused call writes nothing.
 pub mod taken;
 
-use calls::check_analyse;
-use calls::check_figures;
+use checks::check_analyse;
+use checks::check_figures;
 use folds::index;
 use refusals::Verdict;
 ghost use mathlib.Core.Path.{_≡_};

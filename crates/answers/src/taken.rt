@@ -12,7 +12,7 @@ ghost use Rattle.sums.specs.Sums.{taskSum};
 ghost use Rattle.passes.specs.Passes.{pass};
 ghost use Rattle.one_pass.specs.System.{system};
 ghost use Rattle.scratch.specs.Scratch.{Passable, Prepared};
-ghost use Rattle.calls.specs.Accepted.{OverheadTaken, WeighTaken};
+ghost use Rattle.checks.specs.Accepted.{OverheadTaken, WeighTaken};
 ghost use Rattle.answers.specs.Concluded.{answerOf, timesOf, Concluded};
 
 // The answer, from the passes that were made over the first n words of the scratch. The settled times are in the buffer where they are the answer.

@@ -1,6 +1,6 @@
-// Call 3: the sum of a task at given times, by `analysis::weigh`.
-use analysis::weigh;
+// Call 3: the sum of a task at given times, by `calls::weigh`.
 use answers::Outcome;
+use calls::weigh;
 use folds::index;
 use libc::STDOUT_FILENO;
 use lines::print::end_line;

@@ -1,3 +1,12 @@
--- Laws of the calls' refusals.
-pub mod Checks
-pub mod Accepted
+-- Demand 3 of the definitions, and what the proofs of the calls share.
+pub mod Demand
+pub mod Table
+pub mod Steps
+pub mod Loans
+pub mod Cells
+pub mod Extras
+pub mod Filling
+pub mod Buffers
+pub mod Work
+pub mod Frame
+pub mod Walk

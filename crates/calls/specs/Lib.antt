@@ -1,3 +1,2 @@
--- What each call refuses, and what it knows where it does not.
-pub mod Refusals
-pub mod Accepted
+-- Demand 3, which `analyse` meets.
+pub mod Demand

@@ -1,63 +1,94 @@
-// The checks that each call makes of what it takes: the rows of its board, and then its own in the table's order.
-pub mod rows;
-
+// The four public calls: figures, overhead, weigh and analyse.
+use answers::Answer;
+use answers::Outcome;
 use refusals::Verdict;
-use refusals::or_else;
-use rows::board_rows;
-use rows::scratch_row;
-use rows::table_row;
-use rows::task_row;
-use rows::time_row;
-use rows::times_row;
 ghost use mathlib.Core.Path.{_≡_};
-ghost use Rattle.calls.specs.Refusals.{figuresRefusal, overheadRefusal, weighRefusal, analyseRefusal};
+ghost use lib.ListN.{length};
+ghost use Rattle.board.specs.Layout.{passLimit};
+ghost use Rattle.refusals.specs.declared.Verdict.the-variants.{Passed};
+ghost use Rattle.answers.specs.Refusals.{figuresRefusal, analyseRefusal};
+ghost use Rattle.answers.specs.Answers.{system, figuresAnswer, overheadAnswer, weighAnswer, analyseAnswer, timesAfter, tableAfter, ScratchAfter};
+ghost use Rattle.calls.specs.Demand.{Demand3};
 
-// What `figures` checks, its table being of this many records.
-pub fn check_figures(board: &[u32], room: usize) -> Verdict
-    ensures { λ r. ⌜ r ≡ figuresRefusal (now (board .entry)) room ⌝ }
+// The response times of a board. Unless refused, the table is filled as `figures` fills it, and the scratch ends with free contents.
+pub fn analyse(
+    board: &[u32],
+    times: &mut [u32],
+    scratch: &mut [u32],
+    table: &mut [figures::Figure],
+) -> Answer
+    ensures answer { λ r. ⌜ r ≡ analyseAnswer
+        (now (board .entry)) (length (now (times .entry))) (length (now (scratch .entry))) (length (now (table .entry))) ⌝ }
+    ensures times { λ r. ⌜ now (times .exit) ≡ timesAfter (now (board .entry)) r (now (times .entry)) ⌝ }
+    ensures table { λ _. ⌜ now (table .exit) ≡ tableAfter (now (board .entry))
+        (analyseRefusal (now (board .entry)) (length (now (times .entry))) (length (now (scratch .entry))) (length (now (table .entry))))
+        (now (table .entry)) ⌝ }
+    ensures scratch { λ _. ⌜ ScratchAfter
+        (analyseRefusal (now (board .entry)) (length (now (times .entry))) (length (now (scratch .entry))) (length (now (table .entry))))
+        (now (scratch .entry)) (now (scratch .exit)) ⌝ }
+    ensures demand3 { λ r. ⌜ (analyseRefusal
+        (now (board .entry)) (length (now (times .entry))) (length (now (scratch .entry))) (length (now (table .entry))) ≡ Passed
+        → Demand3 (system (now (board .entry))) (passLimit (now (board .entry))) r (now (times .exit))) ⌝ }
 {
-    let c = board_rows(board);
-    let n = c.tasks;
-    let v = c.verdict;
-    or_else(v, table_row(n, room))
+    let mut n: usize = 0;
+    let mut words = [0u32; 256];
+    let mut sets = [0u64; 256];
+    let answer = answers::analyse(
+        board,
+        times,
+        scratch,
+        table.len(),
+        &mut n,
+        &mut words,
+        &mut sets,
+    );
+    table::fill(board, n, &words, &sets, table);
+    answer
 }
 
-// What `overhead` checks.
-pub fn check_overhead(board: &[u32], i: usize, j: usize) -> Verdict
-    ensures { λ r. ⌜ r ≡ overheadRefusal (now (board .entry)) i j ⌝ }
+// `analyse` for callers that want no figures: as with a table of 64 records.
+pub fn analyse_alone(board: &[u32], times: &mut [u32], scratch: &mut [u32]) -> Answer
+    ensures answer { λ r. ⌜ r ≡ analyseAnswer (now (board .entry)) (length (now (times .entry))) (length (now (scratch .entry))) 64 ⌝ }
+    ensures times { λ r. ⌜ now (times .exit) ≡ timesAfter (now (board .entry)) r (now (times .entry)) ⌝ }
+    ensures scratch { λ _. ⌜ ScratchAfter (analyseRefusal (now (board .entry)) (length (now (times .entry))) (length (now (scratch .entry))) 64)
+        (now (scratch .entry)) (now (scratch .exit)) ⌝ }
 {
-    let c = board_rows(board);
-    let n = c.tasks;
-    let v = c.verdict;
-    or_else(v, or_else(task_row(n, i), task_row(n, j)))
+    let mut n: usize = 0;
+    let mut words = [0u32; 256];
+    let mut sets = [0u64; 256];
+    answers::analyse(board, times, scratch, 64, &mut n, &mut words, &mut sets)
 }
 
-// What `weigh` checks.
-pub fn check_weigh(board: &[u32], times: &[u32], i: usize) -> Verdict
-    ensures { λ r. ⌜ r ≡ weighRefusal (now (board .entry)) (now (times .entry)) i ⌝ }
+// The figures of every task, one record a task; the later records are untouched. Answers the number of records filled.
+pub fn figures(board: &[u32], table: &mut [figures::Figure]) -> Outcome
+    ensures answer { λ r. ⌜ r ≡ figuresAnswer (now (board .entry)) (length (now (table .entry))) ⌝ }
+    ensures table { λ _. ⌜ now (table .exit) ≡ tableAfter (now (board .entry))
+        (figuresRefusal (now (board .entry)) (length (now (table .entry)))) (now (table .entry)) ⌝ }
 {
-    let c = board_rows(board);
-    let n = c.tasks;
-    let v = c.verdict;
-    let over = time_row(board, times, n);
-    or_else(
-        v,
-        or_else(task_row(n, i), or_else(times_row(n, times.len()), over)),
-    )
+    let mut n: usize = 0;
+    let mut words = [0u32; 256];
+    let mut sets = [0u64; 256];
+    let outcome = answers::figures(board, table.len(), &mut n, &mut words, &mut sets);
+    table::fill(board, n, &words, &sets, table);
+    outcome
 }
 
-// What `analyse` checks, its buffers being of these lengths.
-pub fn check_analyse(board: &[u32], times: usize, scratch: usize, room: usize) -> Verdict
-    ensures { λ r. ⌜ r ≡ analyseRefusal (now (board .entry)) times scratch room ⌝ }
+// The pre-emption overhead γ(i, j); tasks are their numbers from 1.
+pub fn overhead(board: &[u32], i: usize, j: usize) -> Outcome
+    ensures { λ r. ⌜ r ≡ overheadAnswer (now (board .entry)) i j ⌝ }
 {
-    let c = board_rows(board);
-    let n = c.tasks;
-    let v = c.verdict;
-    or_else(
-        v,
-        or_else(
-            times_row(n, times),
-            or_else(scratch_row(n, scratch), table_row(n, room)),
-        ),
-    )
+    match checks::check_overhead(board, i, j) {
+        Verdict::Passed => Outcome::Value(answers::taken::overhead(board, i, j)),
+        Verdict::Refused(number, place) => Outcome::Refused(number, place),
+    }
+}
+
+// The sum of task i at the times; a task is its number from 1.
+pub fn weigh(board: &[u32], times: &[u32], i: usize) -> Outcome
+    ensures { λ r. ⌜ r ≡ weighAnswer (now (board .entry)) (now (times .entry)) i ⌝ }
+{
+    match checks::check_weigh(board, times, i) {
+        Verdict::Passed => Outcome::Value(answers::taken::sum(board, times, i)),
+        Verdict::Refused(number, place) => Outcome::Refused(number, place),
+    }
 }

@@ -12,7 +12,7 @@ ghost use Rattle.board.specs.Layout.{passLimit};
 ghost use Rattle.refusals.specs.declared.Verdict.the-variants.{Passed};
 ghost use Rattle.answers.specs.Refusals.{figuresRefusal, analyseRefusal};
 ghost use Rattle.answers.specs.Answers.{system, figuresAnswer, overheadAnswer, weighAnswer, analyseAnswer, timesAfter, ScratchAfter};
-ghost use Rattle.analysis.specs.Demand.{Demand3};
+ghost use Rattle.calls.specs.Demand.{Demand3};
 ghost use Rattle.replies.specs.Replies.{outcomeCode, outcomeNumber, answerCode, answerNumber};
 ghost use Rattle.replies.specs.Records.{recordsAfter};
 
@@ -45,7 +45,7 @@ pub extern "C" fn zuzgravel_overhead(board: &[u32], i: usize, j: usize, numbers:
     ensures code { λ r. ⌜ r ≡ outcomeCode (overheadAnswer (now (board .entry)) i j) ⌝ }
     ensures numbers { λ _. ⌜ now (numbers .exit) ≡ fillTo (outcomeNumber (overheadAnswer (now (board .entry)) i j)) 2 (now (numbers .entry)) ⌝ }
 {
-    of_outcome(analysis::overhead(board, i, j), numbers)
+    of_outcome(calls::overhead(board, i, j), numbers)
 }
 
 // Weigh: the value is the sum of task i, a number from 1, at these times.
@@ -60,7 +60,7 @@ pub extern "C" fn zuzgravel_weigh(
     ensures numbers { λ _. ⌜ now (numbers .exit) ≡ fillTo
         (outcomeNumber (weighAnswer (now (board .entry)) (now (times .entry)) i)) 2 (now (numbers .entry)) ⌝ }
 {
-    of_outcome(analysis::weigh(board, times, i), numbers)
+    of_outcome(calls::weigh(board, times, i), numbers)
 }
 
 // Analyse: the settled times into `times` where they are the answer, and the records as `zuzgravel_figures` writes them unless refused.

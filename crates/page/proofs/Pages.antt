@@ -9,7 +9,7 @@ use Rattle.board.specs.Layout.{tasks, mostTasks, mostScratch}
 use Rattle.board.specs.Sound.{Sound}
 use Rattle.refusals.specs.declared.Verdict.{Verdict}
 use Rattle.refusals.specs.declared.Verdict.the-variants.{Passed, Refused as Verdict·Refused}
-use Rattle.calls.proofs.Accepted.{analyse-taken}
+use Rattle.checks.proofs.Accepted.{analyse-taken}
 use Rattle.answers.specs.Refusals.{analyseRefusal}
 use Rattle.answers.specs.Answers.{answerBy, analyseAnswer, timesAfter}
 use Rattle.answers.specs.declared.Answer.{Answer}

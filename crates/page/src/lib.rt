@@ -61,6 +61,6 @@ pub fn board_page(out: &mut [u8], board: &[u32]) -> usize
 {
     let mut times = [0u32; MOST_TASKS];
     let mut scratch = [0u32; MOST_SCRATCH];
-    let answer = analysis::analyse_alone(board, &mut times, &mut scratch);
+    let answer = calls::analyse_alone(board, &mut times, &mut scratch);
     answer_page(out, board, &times, answer)
 }

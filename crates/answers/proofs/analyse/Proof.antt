@@ -4,8 +4,8 @@ use mathlib.Core.Path.{_≡_, sym, _∙_}
 use lib.ListN.{length}
 use borrow.Author.Needs.{needs}
 use Rattle.refusals.specs.declared.Verdict.the-variants.{Passed}
-use Rattle.calls.specs.Accepted.{AnalyseTaken}
-use Rattle.calls.proofs.Accepted.{analyse-taken}
+use Rattle.checks.specs.Accepted.{AnalyseTaken}
+use Rattle.checks.proofs.Accepted.{analyse-taken}
 use Rattle.answers.specs.Answers.{answerBy, analyseAnswer}
 use Rattle.answers.proofs.Begun.{room-taken, counted, joined}
 use Rattle.answers.proofs.analyse.Statement.{statement}

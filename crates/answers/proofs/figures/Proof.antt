@@ -7,8 +7,8 @@ use borrow.Author.Needs.{needs}
 use Rattle.board.specs.Layout.{tasks}
 use Rattle.refusals.specs.declared.Verdict.the-variants.{Passed}
 use Rattle.figures.proofs.Fillable.{fillable-tasks, fillable-none, held-tasks}
-use Rattle.calls.specs.Accepted.{FiguresTaken}
-use Rattle.calls.proofs.Accepted.{figures-taken}
+use Rattle.checks.specs.Accepted.{FiguresTaken}
+use Rattle.checks.proofs.Accepted.{figures-taken}
 use Rattle.answers.specs.Refusals.{figuresRefusal}
 use Rattle.answers.specs.Answers.{figuresAnswer}
 use Rattle.answers.proofs.Outcomes.{outcome-value, outcome-refused, tasks-records, none-records}

@@ -5,7 +5,7 @@ use mathlib.Core.Path.{refl, ap, _∙_}
 use native.Mathlib.Omega.{arith}
 use borrow.Author.Needs.{needs}
 use Rattle.answers.specs.Answers.{timesAfter}
-use Rattle.analysis.proofs.Demand.{demand3-met}
+use Rattle.calls.proofs.Demand.{demand3-met}
 use Rattle.replies.specs.Replies.{answerCode, answerNumber}
 use Rattle.replies.proofs.Replies.{replies-as}
 use Rattle.replies.proofs.Records.{filled-records}

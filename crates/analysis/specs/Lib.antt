@@ -1,2 +1,0 @@
--- Demand 3, which `analyse` meets.
-pub mod Demand

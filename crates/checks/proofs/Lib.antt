@@ -1,0 +1,3 @@
+-- Laws of the calls' refusals.
+pub mod Checks
+pub mod Accepted
