@@ -1,4 +1,4 @@
--- What it takes to print an answer.
+-- For the code: what it takes to print an answer.
 -- Assumes nothing.
 use Prim.Native.Nat.{ℕ, _≤_}
 use mathlib.Core.List.{List}

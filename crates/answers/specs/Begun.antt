@@ -1,4 +1,4 @@
--- What is known of a call that its checks give the verdict v, once its figures are worked out, and of Analyse once all but its table is done.
+-- For the code: what is known of a call that its checks give the verdict v, once its figures are worked out, and of Analyse once all but its table is done.
 -- Assumes nothing.
 use Prim.Native.Nat.{ℕ}
 use mathlib.Core.List.{List}

@@ -1,4 +1,4 @@
--- What a call answers and leaves where it is not refused: from the passes that were made, and by the step that made them.
+-- For the code: what a call answers and leaves where it is not refused: from the passes that were made, and by the step that made them.
 -- Assumes nothing.
 use Prim.Native.Nat.{ℕ, _+_}
 use mathlib.Core.Bool.{cond}

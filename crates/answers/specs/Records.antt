@@ -1,4 +1,4 @@
--- How many records of the figures table a call fills: one a task, and none where it refuses.
+-- For the code: how many records of the figures table a call fills: one a task, and none where it refuses.
 -- Assumes nothing.
 use Prim.Native.Nat.{ℕ, _≤_}
 use mathlib.Core.List.{List}

@@ -1,4 +1,4 @@
--- Records of a buffer, one set of four words each: how the code keeps sets. A reader of the definitions can pass this file by.
+-- For the code: records of a buffer, one set of four words each: how the code keeps sets.
 -- Assumes nothing.
 use Prim.Native.Nat.{ℕ, _+_, _*_}
 use mathlib.Core.Bool.{Bool, _&&_}

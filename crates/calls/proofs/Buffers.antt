@@ -41,6 +41,7 @@ pub data Buffers : Type 0 where
   none : Buffers
   both : Buffers
 
+-- how many they are
 abbrev pub size : Buffers → ℕ
 size none = 0
 size both = 2
@@ -71,7 +72,7 @@ pub record Opened (g : Buffers) (xs : List Extra) : Type 0 where
 abbrev pub lastList : (R : RattleType) → RefT (List (R .Denot)) → List (R .Denot) → Fml
 lastList R x ws = fsep (finally R (x .name) ws) (feq ℕ (length ws) (length (now x)))
 
--- ---- their locals
+-- ---- their locals: the parameters, and two temporaries for each
 
 abbrev slice : Ty
 slice = sliceTy (tyRef erased mut (tyInt w32))
@@ -110,6 +111,7 @@ abbrev figure : {n : ℕ} → Slot n
 figure = plain (λ _. T.the-row)
 
 module _ (xs : List Extra) where
+  -- the slots after the board's
   abbrev rest : (g : Buffers) → List (Slot (called g))
   rest none = mutSlice 1 tt (λ _. T.the-row) ∷ slots 2 (first 1) xs
   rest both = mutSlice 1 tt (λ _. u32) ∷ mutSlice 2 tt (λ _. u32) ∷ mutSlice 3 tt (λ _. T.the-row) ∷ slots 4 (first 3) xs

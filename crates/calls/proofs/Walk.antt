@@ -95,7 +95,7 @@ zeroVal w = arrayVal (replicate 256 (vint w 0))
 abbrev lent : {X : Type 0} → ℕ → X → GName → RefT X
 lent l x γ = record { ptr = (l, 0); name = γ; now = x }
 
--- the one machine value of a list of them
+-- the machine value of an array of numbers
 abbrev only-val : Width → List ℕ → Val
 only-val w ws = arrayVal (map (λ (k : ℕ). vint w k) ws)
 

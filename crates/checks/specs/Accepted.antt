@@ -1,4 +1,4 @@
--- What is known where a call is not refused; the laws in proofs/Accepted.antt derive it.
+-- For the code: what is known where a call is not refused; the laws in proofs/Accepted.antt derive it.
 -- Assumes nothing.
 use Prim.Native.Nat.{ℕ, _≤_, _<_}
 use mathlib.Core.List.{List}

@@ -1,4 +1,4 @@
--- What a function over one task of a board asks: the board passed its checks, and the task is one of its tasks.
+-- For the code: what a function over one task of a board asks: the board passed its checks, and the task is one of its tasks.
 -- Assumes nothing.
 use Prim.Native.Nat.{ℕ, _<_}
 use mathlib.Core.List.{List}

@@ -1,4 +1,4 @@
--- What the functions of the walk over all tasks hand to each other: the sets evicted so far, and a row of overheads.
+-- For the code: what the functions of the walk over all tasks hand to each other: the sets evicted so far, and a row of overheads.
 -- Assumes nothing.
 use Prim.Native.Nat.{ℕ, _≤_, _<_, max}
 use mathlib.Core.Bool.{Bool, _&&_}

@@ -1,4 +1,4 @@
--- What the walk over all tasks leaves, as words of two buffers.
+-- For the code: what the walk over all tasks leaves, as words of two buffers.
 -- Assumes nothing.
 use Prim.Native.Nat.{ℕ, _+_, _*_, _≤_, _<_}
 use mathlib.Core.Bool.{Bool, true}

@@ -1,4 +1,4 @@
--- What a run of stores leaves: the part that was written, and all else as it was.
+-- For the code: what a run of stores leaves: the part that was written, and all else as it was.
 -- Assumes nothing.
 use Prim.Native.Nat.{ℕ, _+_, _≤_, _<_}
 use mathlib.Core.List.{List}

@@ -1,4 +1,4 @@
--- The six parts of a sum as the struct that the code returns.
+-- For the code: the six parts of a sum as the struct that the code returns.
 -- Assumes nothing.
 use Prim.Native.Nat.{ℕ}
 use mathlib.Core.List.{List}

@@ -1,4 +1,4 @@
--- What the loops over the tasks off a core add up: each such task is met once. The laws of proofs/BySide.antt and proofs/ByCore.antt join these
+-- For the code: what the loops over the tasks off a core add up: each such task is met once. The laws of proofs/BySide.antt and proofs/ByCore.antt join these
 -- to the definitions: a reader of the definitions can pass this file by.
 -- Assumes nothing.
 use Prim.Native.Nat.{ℕ, _+_}

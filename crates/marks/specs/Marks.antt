@@ -1,4 +1,4 @@
--- The mark of a slot, by which the scan backwards tells the scan forwards what the slot loads. Only the two scans and their laws speak of it.
+-- For the code: the mark of a slot, by which the scan backwards tells the scan forwards what the slot loads. Only the two scans and their laws speak of it.
 -- Assumes nothing.
 use Prim.Native.Nat.{ℕ, _+_, _-_, _*_, _/_, _%_, _≤_, _<_}
 use mathlib.Core.Path.{_≡_}

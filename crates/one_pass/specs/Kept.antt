@@ -1,4 +1,4 @@
--- Which next times a pass may keep: those of the tasks that read no time which the pass before it moved.
+-- For the code: which next times a pass may keep: those of the tasks that read no time which the pass before it moved.
 -- Assumes nothing.
 use Prim.Native.Nat.{ℕ, _+_, _≤_, _<_}
 use mathlib.Core.Bool.{Bool, false}

@@ -1,4 +1,4 @@
--- What a pass starts from.
+-- For the code: what a pass starts from.
 -- Assumes nothing.
 use Prim.Native.Nat.{ℕ}
 use mathlib.Core.List.{List}

@@ -1,4 +1,4 @@
--- The test of a word by the part of the board that it stands in.
+-- For the code: the test of a word by the part of the board that it stands in.
 -- Assumes nothing.
 use Prim.Native.Nat.{ℕ}
 use mathlib.Core.Bool.{Bool}

@@ -1,4 +1,4 @@
--- The word scratch of n tasks, n × n + 4n words: times n | next times n | PD n | MD n | the rows D'(i, _), n words each.
+-- For the code: the word scratch of n tasks, n × n + 4n words: times n | next times n | PD n | MD n | the rows D'(i, _), n words each.
 -- Assumes nothing.
 use Prim.Native.Nat.{ℕ, _+_, _*_, _≤_, _<_}
 use mathlib.Core.List.{List}

@@ -1,4 +1,4 @@
--- What goes to the times buffer.
+-- For the code: what goes to the times buffer.
 -- Assumes nothing.
 use Prim.Native.Nat.{ℕ}
 use mathlib.Core.Bool.{cond}

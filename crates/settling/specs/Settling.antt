@@ -1,4 +1,4 @@
--- What the passes end with.
+-- For the code: what the passes end with.
 -- Assumes nothing.
 use Prim.Native.Nat.{ℕ, _≤_}
 use mathlib.Core.Bool.{cond}

@@ -1,4 +1,4 @@
--- What the code of a sum is handed: lists that begin with the tasks' figures, and times of at most D + 1; and what its first
+-- For the code: what the code of a sum is handed: lists that begin with the tasks' figures, and times of at most D + 1; and what its first
 -- loop adds up.
 -- Assumes nothing.
 use Prim.Native.Nat.{ℕ, _+_, _*_, _≤_, _<_}

@@ -1,4 +1,4 @@
--- How large the numbers of a sum can be, on a board that passed its checks and at times of at most D + 1. For the code, which stays below
+-- For the code: how large the numbers of a sum can be, on a board that passed its checks and at times of at most D + 1. It stays below
 -- 2^64 by them: proofs/Bounds.antt proves each, and a reader of the definitions can pass this file by.
 -- Assumes nothing.
 use Prim.Native.Nat.{ℕ, _+_, _*_, _^_}

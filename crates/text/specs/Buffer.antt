@@ -1,4 +1,4 @@
--- Bytes put into a lent buffer.
+-- For the code: bytes put into a lent buffer.
 -- Assumes nothing.
 use Prim.Native.Nat.{ℕ, _+_, _≤_}
 use mathlib.Core.List.{List}

@@ -1,4 +1,4 @@
--- Where a trace lies in a board's words.
+-- For the code: where a trace lies in a board's words.
 -- Assumes nothing.
 use Prim.Native.Nat.{ℕ, _+_, _≤_}
 use mathlib.Core.List.{List}

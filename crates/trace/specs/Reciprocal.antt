@@ -1,4 +1,4 @@
--- The number by which the code multiplies to divide a block by the sets of a cache. A reader of the definitions can pass this file by.
+-- For the code: the number by which the code multiplies to divide a block by the sets of a cache.
 -- Assumes nothing.
 use Prim.Native.Nat.{ℕ, _+_, _/_, _≤_}
 use mathlib.Core.Path.{_≡_}

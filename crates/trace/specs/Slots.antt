@@ -1,4 +1,4 @@
--- The loads of a trace as the code scans them: slot 2p is the fetch of instruction p, slot 2p + 1 its read; a slot holds the block + 1, and
+-- For the code: the loads of a trace as the code scans them: slot 2p is the fetch of instruction p, slot 2p + 1 its read; a slot holds the block + 1, and
 -- 0 where it loads nothing. Only the code's loops and proofs/Slots.antt speak of slots: a reader of the definitions can pass this file by.
 -- Assumes nothing.
 use Prim.Native.Nat.{ℕ, zero, suc, _+_, _-_, _/_, _%_}

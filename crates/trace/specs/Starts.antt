@@ -1,4 +1,4 @@
--- Where a board's traces start, for the loops over them.
+-- For the code: where a board's traces start, for the loops over them.
 -- Assumes nothing.
 use Prim.Native.Nat.{ℕ, _+_, _<_}
 use mathlib.Core.List.{List}

@@ -1,4 +1,4 @@
--- The useful sets of a trace at some of its points, as records of a lent buffer, which stand for all of them.
+-- For the code: the useful sets of a trace at some of its points, as records of a lent buffer, which stand for all of them.
 -- Assumes nothing.
 use Prim.Native.Nat.{ℕ, _≤_, _<_}
 use mathlib.Core.Path.{_≡_}
