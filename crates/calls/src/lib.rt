@@ -1,6 +1,7 @@
 // The four public calls: figures, overhead, weigh and analyse.
 use answers::Answer;
 use answers::Outcome;
+use board::MOST_TASKS;
 use refusals::Verdict;
 ghost use mathlib.Core.Path.{_≡_};
 ghost use lib.ListN.{length};
@@ -56,7 +57,15 @@ pub fn analyse_alone(board: &[u32], times: &mut [u32], scratch: &mut [u32]) -> A
     let mut n: usize = 0;
     let mut words = [0u32; 256];
     let mut sets = [0u64; 256];
-    answers::analyse(board, times, scratch, 64, &mut n, &mut words, &mut sets)
+    answers::analyse(
+        board,
+        times,
+        scratch,
+        MOST_TASKS,
+        &mut n,
+        &mut words,
+        &mut sets,
+    )
 }
 
 // The figures of every task, one record a task; the later records are untouched. Answers the number of records filled.

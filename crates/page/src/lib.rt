@@ -11,6 +11,7 @@ use answer_page::answer_page;
 use answer_page::pair_line;
 use board::MOST_SCRATCH;
 use board::MOST_TASKS;
+use board::MOST_WORDS;
 use input::decode;
 use input::refusal;
 use refusals::Verdict;
@@ -48,7 +49,7 @@ fn words_page(out: &mut [u8], bytes: &[u8]) -> usize
     requires { ⌜ (inputRefusal (now bytes) ≡ Passed) × (4096 ≤ length (now out)) ⌝ }
     ensures { λ r. ⌜ Put (now (out .entry)) 0 (pageOf (now (bytes .entry))) (now (out .exit)) r ⌝ }
 {
-    let mut words = [0u32; 16384];
+    let mut words = [0u32; MOST_WORDS];
     let n = decode(bytes, &mut words);
     board_page(out, &words[..n])
 }
