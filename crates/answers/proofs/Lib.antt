@@ -1,4 +1,3 @@
 -- The laws of the answers.
 pub mod Outcomes
 pub mod Concluded
-pub mod Begun

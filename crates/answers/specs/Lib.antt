@@ -2,5 +2,4 @@
 pub mod Refusals
 pub mod Answers
 pub mod Records
-pub mod Begun
 pub mod Concluded

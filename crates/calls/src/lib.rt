@@ -34,7 +34,7 @@ pub fn analyse(
     let mut n: usize = 0;
     let mut words = [0u32; 256];
     let mut sets = [0u64; 256];
-    let answer = answers::analyse(
+    let answer = call_work::analyse(
         board,
         times,
         scratch,
@@ -57,7 +57,7 @@ pub fn analyse_alone(board: &[u32], times: &mut [u32], scratch: &mut [u32]) -> A
     let mut n: usize = 0;
     let mut words = [0u32; 256];
     let mut sets = [0u64; 256];
-    answers::analyse(
+    call_work::analyse(
         board,
         times,
         scratch,
@@ -77,7 +77,7 @@ pub fn figures(board: &[u32], table: &mut [figures::Figure]) -> Outcome
     let mut n: usize = 0;
     let mut words = [0u32; 256];
     let mut sets = [0u64; 256];
-    let outcome = answers::figures(board, table.len(), &mut n, &mut words, &mut sets);
+    let outcome = call_work::figures(board, table.len(), &mut n, &mut words, &mut sets);
     table::fill(board, n, &words, &sets, table);
     outcome
 }

@@ -28,7 +28,7 @@ pub extern "C" fn zuzgravel_figures(board: &[u32], records: &mut [u32], numbers:
     let mut n: usize = 0;
     let mut words = [0u32; 256];
     let mut sets = [0u64; 256];
-    let outcome = answers::figures(
+    let outcome = call_work::figures(
         board,
         records.len() / RECORD_WORDS,
         &mut n,
@@ -96,7 +96,7 @@ pub extern "C" fn zuzgravel_analyse(
     let mut words = [0u32; 256];
     let mut sets = [0u64; 256];
     let room = records.len() / RECORD_WORDS;
-    let answer = answers::analyse(board, times, scratch, room, &mut n, &mut words, &mut sets);
+    let answer = call_work::analyse(board, times, scratch, room, &mut n, &mut words, &mut sets);
     fill(board, n, &words, &sets, records);
     of_answer(answer, numbers)
 }

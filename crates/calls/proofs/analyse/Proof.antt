@@ -1,4 +1,4 @@
--- `calls::analyse` meets its contract: it is a call that fills the figures table, over `answers::analyse` (`Walk.antt`). Demand 3 follows from the
+-- `calls::analyse` meets its contract: it is a call that fills the figures table, over `call_work::analyse` (`Walk.antt`). Demand 3 follows from the
 -- answer and the times.
 -- Assumes nothing.
 use Prim.Native.Nat.{ℕ}
@@ -14,13 +14,13 @@ use Rattle.table.proofs.fill.Symbol.{name as #table·fill}
 use Rattle.table.proofs.fill.Met as fill-thm
 use Rattle.refusals.specs.declared.Verdict.{Verdict}
 use Rattle.answers.specs.Refusals.{analyseRefusal}
-use Rattle.answers.specs.Begun.{Analysed}
+use Rattle.call_work.specs.Begun.{Analysed}
 use Rattle.answers.specs.declared.Answer.{Answer}
 use Rattle.answers.proofs.Answer as S
 use Rattle.answers.proofs.Answer.Laws as S′
-use Rattle.answers.proofs.analyse.Symbol as work-def
-use Rattle.answers.proofs.analyse.Symbol.{name as #answers·analyse}
-use Rattle.answers.proofs.analyse.Met as work-thm
+use Rattle.call_work.proofs.analyse.Symbol as work-def
+use Rattle.call_work.proofs.analyse.Symbol.{name as #call-work·analyse}
+use Rattle.call_work.proofs.analyse.Met as work-thm
 use Rattle.calls.proofs.Demand.{demand3-met}
 use Rattle.calls.proofs.Steps.{holds, both}
 use Rattle.calls.proofs.Extras.{Values}
@@ -45,10 +45,10 @@ unfolding code.routine tablesOf
 analyse-spec 𝓤 H 𝓜 𝓖 𝓡 =
     entered 𝓤 H (tripleOf 𝓤 H (𝓖 .A) analyse.signature (analyse.spec 𝓤 H (𝓖 .A) (𝓜 .mem) (𝓡 .run)))
     (tables 𝓤 H 𝓜 𝓡 code.env .C) (tables 𝓤 H 𝓜 𝓡 code.env .Λ) #calls·analyse code.function (code.unfolded 𝓤 H 𝓜 𝓡)
-    (meets S.the-row times-and-scratch [] refuse Done S′.mir (λ r u is. EL.lawful S.the-type S′.the-laws 𝓤 H (𝓖 .A) (givenOf 𝓤 H 𝓜 𝓖) tt .typed r _ is .0) #answers·analyse
+    (meets S.the-row times-and-scratch [] refuse Done S′.mir (λ r u is. EL.lawful S.the-type S′.the-laws 𝓤 H (𝓖 .A) (givenOf 𝓤 H 𝓜 𝓖) tt .typed r _ is .0) #call-work·analyse
     𝓤 H (𝓖 .A) (givenOf 𝓤 H 𝓜 𝓖) (𝓜 .mem) (𝓡 .run) (λ κs a. analyse.clauses 𝓤 H (𝓖 .A) (𝓜 .mem) (𝓡 .run) κs a .ensures tt)
     (λ κs a r new fs done table. both 𝓤 (holds 𝓤 (done .0)) (both 𝓤 (holds 𝓤 (done .1 .0)) (both 𝓤 (holds 𝓤 table) (both 𝓤 (holds 𝓤 (done .1 .1))
     (holds 𝓤 (λ passed. demand3-met (now (a .0)) (now (a .1 .0)) _ _ passed r (new .0) (done .0) (done .1 .0)))))))
     (tablesOf 𝓤 H 𝓜 (tables 𝓤 H 𝓜 𝓡 code.env))
-    (cited 𝓤 H (Works S.the-row times-and-scratch [] refuse Done 𝓤 H (𝓖 .A)) 𝓜 𝓡 code.env #answers·analyse work-def.routine code.calls-answers·analyse (work-thm.met 𝓤 H 𝓜 𝓖 𝓡))
+    (cited 𝓤 H (Works S.the-row times-and-scratch [] refuse Done 𝓤 H (𝓖 .A)) 𝓜 𝓡 code.env #call-work·analyse work-def.routine code.calls-call-work·analyse (work-thm.met 𝓤 H 𝓜 𝓖 𝓡))
     (cited 𝓤 H (Fills 𝓤 H (𝓖 .A) (𝓜 .mem) (𝓡 .run)) 𝓜 𝓡 code.env #table·fill fill-def.routine code.calls-table·fill (fill-thm.met 𝓤 H 𝓜 𝓖 𝓡)))

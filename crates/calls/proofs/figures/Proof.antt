@@ -1,4 +1,4 @@
--- `calls::figures` meets its contract: it is a call that fills the figures table, over `answers::figures` and with no buffers (`Walk.antt`).
+-- `calls::figures` meets its contract: it is a call that fills the figures table, over `call_work::figures` and with no buffers (`Walk.antt`).
 -- Assumes nothing.
 use Prim.Native.Nat.{ℕ}
 use mathlib.Core.List.{List, []}
@@ -16,9 +16,9 @@ use Rattle.answers.specs.Answers.{figuresAnswer}
 use Rattle.answers.specs.declared.Outcome.{Outcome}
 use Rattle.answers.proofs.Outcome as S
 use Rattle.answers.proofs.Outcome.Laws as S′
-use Rattle.answers.proofs.figures.Symbol as work-def
-use Rattle.answers.proofs.figures.Symbol.{name as #answers·figures}
-use Rattle.answers.proofs.figures.Met as work-thm
+use Rattle.call_work.proofs.figures.Symbol as work-def
+use Rattle.call_work.proofs.figures.Symbol.{name as #call-work·figures}
+use Rattle.call_work.proofs.figures.Met as work-thm
 use Rattle.calls.proofs.Steps.{holds, both}
 use Rattle.calls.proofs.Extras.{Values}
 use Rattle.calls.proofs.Buffers.{Lists, none}
@@ -41,9 +41,9 @@ unfolding code.routine tablesOf
 figures-spec 𝓤 H 𝓜 𝓖 𝓡 =
     entered 𝓤 H (tripleOf 𝓤 H (𝓖 .A) figures.signature (figures.spec 𝓤 H (𝓖 .A) (𝓜 .mem) (𝓡 .run)))
     (tables 𝓤 H 𝓜 𝓡 code.env .C) (tables 𝓤 H 𝓜 𝓡 code.env .Λ) #calls·figures code.function (code.unfolded 𝓤 H 𝓜 𝓡)
-    (meets S.the-row none [] refuse Done S′.mir (λ r u is. EL.lawful S.the-type S′.the-laws 𝓤 H (𝓖 .A) (givenOf 𝓤 H 𝓜 𝓖) tt .typed r _ is .0) #answers·figures
+    (meets S.the-row none [] refuse Done S′.mir (λ r u is. EL.lawful S.the-type S′.the-laws 𝓤 H (𝓖 .A) (givenOf 𝓤 H 𝓜 𝓖) tt .typed r _ is .0) #call-work·figures
     𝓤 H (𝓖 .A) (givenOf 𝓤 H 𝓜 𝓖) (𝓜 .mem) (𝓡 .run) (λ κs a. figures.clauses 𝓤 H (𝓖 .A) (𝓜 .mem) (𝓡 .run) κs a .ensures tt)
     (λ κs a r new fs done table. both 𝓤 (holds 𝓤 done) (holds 𝓤 table))
     (tablesOf 𝓤 H 𝓜 (tables 𝓤 H 𝓜 𝓡 code.env))
-    (cited 𝓤 H (Works S.the-row none [] refuse Done 𝓤 H (𝓖 .A)) 𝓜 𝓡 code.env #answers·figures work-def.routine code.calls-answers·figures (work-thm.met 𝓤 H 𝓜 𝓖 𝓡))
+    (cited 𝓤 H (Works S.the-row none [] refuse Done 𝓤 H (𝓖 .A)) 𝓜 𝓡 code.env #call-work·figures work-def.routine code.calls-call-work·figures (work-thm.met 𝓤 H 𝓜 𝓖 𝓡))
     (cited 𝓤 H (Fills 𝓤 H (𝓖 .A) (𝓜 .mem) (𝓡 .run)) 𝓜 𝓡 code.env #table·fill fill-def.routine code.calls-table·fill (fill-thm.met 𝓤 H 𝓜 𝓖 𝓡)))

@@ -1,4 +1,4 @@
--- `answers::figures` meets its contract.
+-- `call_work::figures` meets its contract.
 -- Assumes nothing.
 use mathlib.Core.Bool.{false≢true}
 use mathlib.Core.Path.{_≡_, sym, _∙_}
@@ -9,11 +9,11 @@ use Rattle.refusals.specs.declared.Verdict.the-variants.{Passed}
 use Rattle.figures.proofs.Fillable.{fillable-tasks, fillable-none, held-tasks}
 use Rattle.checks.specs.Accepted.{FiguresTaken}
 use Rattle.checks.proofs.Accepted.{figures-taken}
 use Rattle.answers.specs.Refusals.{figuresRefusal}
 use Rattle.answers.specs.Answers.{figuresAnswer}
 use Rattle.answers.proofs.Outcomes.{outcome-value, outcome-refused, tasks-records, none-records}
-use Rattle.answers.proofs.figures.Statement.{statement}
-use Rattle.answers.proofs.figures.Tie as tie
+use Rattle.call_work.proofs.figures.Statement.{statement}
+use Rattle.call_work.proofs.figures.Tie as tie
 
 abbrev start-of : tie.After-enum-told → tie.Start
 start-of t = t .before .before .before .before .before

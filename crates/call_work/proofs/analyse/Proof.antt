@@ -1,4 +1,4 @@
--- `answers::analyse` meets its contract: the halves, put together by the verdict that the checks give.
+-- `call_work::analyse` meets its contract: the halves, put together by the verdict that the checks give.
 -- Assumes nothing.
 use mathlib.Core.Path.{_≡_, sym, _∙_}
 use lib.ListN.{length}
@@ -6,10 +6,10 @@ use borrow.Author.Needs.{needs}
 use Rattle.refusals.specs.declared.Verdict.the-variants.{Passed}
 use Rattle.checks.specs.Accepted.{AnalyseTaken}
 use Rattle.checks.proofs.Accepted.{analyse-taken}
 use Rattle.answers.specs.Answers.{answerBy, analyseAnswer}
-use Rattle.answers.proofs.Begun.{room-taken, counted, joined}
-use Rattle.answers.proofs.analyse.Statement.{statement}
-use Rattle.answers.proofs.analyse.Tie as tie
+use Rattle.call_work.proofs.Begun.{room-taken, counted, joined}
+use Rattle.call_work.proofs.analyse.Statement.{statement}
+use Rattle.call_work.proofs.analyse.Tie as tie
 
 abbrev Checked : Type 0
 Checked = tie.After-check-analyse

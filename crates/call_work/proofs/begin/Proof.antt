@@ -1,13 +1,13 @@
--- `answers::begin` meets its contract.
+-- `call_work::begin` meets its contract.
 -- Assumes nothing.
 use mathlib.Core.Path.{_≡_, sym, subst, _∙_}
 use Prim.Native.Nat.{ℕ}
 use borrow.Author.Needs.{needs}
 use Rattle.board.specs.Layout.{tasks}
 use Rattle.scratch.specs.Scratch.{Room}
-use Rattle.answers.proofs.Begun.{begun-tasks, begun-none}
-use Rattle.answers.proofs.begin.Statement.{statement}
-use Rattle.answers.proofs.begin.Tie as tie
+use Rattle.call_work.proofs.Begun.{begun-tasks, begun-none}
+use Rattle.call_work.proofs.begin.Statement.{statement}
+use Rattle.call_work.proofs.begin.Tie as tie
 
 abbrev start-of : tie.After-index → tie.Start
 start-of i = i .before .before .before .before .before .before .before

@@ -14,10 +14,10 @@ use Rattle.figures.specs.Survey.{Held}
 use Rattle.figures.proofs.Fillable.{fillable-tasks, fillable-none}
 use Rattle.scratch.specs.Scratch.{Room, Prepared}
 use Rattle.checks.specs.Accepted.{AnalyseTaken}
 use Rattle.answers.specs.Answers.{ScratchAfter}
 use Rattle.answers.specs.Records.{Counted}
-use Rattle.answers.specs.Begun.{Begun}
+use Rattle.call_work.specs.Begun.{Begun}
 use Rattle.answers.proofs.Outcomes.{tasks-records, none-records, records-room, room-for}
 
 -- a refusal is no pass
 abbrev passes : Verdict → ℕ

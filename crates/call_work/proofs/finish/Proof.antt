@@ -1,10 +1,10 @@
--- `answers::finish` meets its contract.
+-- `call_work::finish` meets its contract.
 -- Assumes nothing.
 use mathlib.Core.Path.{_∙_}
 use borrow.Author.Needs.{needs}
 use Rattle.answers.proofs.Outcomes.{leaves-refused, leaves-answer}
-use Rattle.answers.proofs.finish.Statement.{statement}
-use Rattle.answers.proofs.finish.Tie as tie
+use Rattle.call_work.proofs.finish.Statement.{statement}
+use Rattle.call_work.proofs.finish.Tie as tie
 
 pub finish-spec : {M : Type 1} → statement M
 finish-spec =

@@ -1,0 +1,2 @@
+-- Laws of the halves of a call.
+pub mod Begun
