@@ -7,7 +7,8 @@ use lib.ListN.{length, set}
 use Rattle.folds.specs.Folds.{ceilDiv, sumTo, maxTo, countTo, anyTo, firstFrom, tabulate, joinTo, fillTo, sameList}
 use Rattle.bitset.specs.Bits.{wordOf, wordsOf}
 use Rattle.board.specs.Layout.{firstTrace, firstInstruction}
-use Rattle.refusals.specs.Refusals.{headerRanges, headerOk, taskRanges, taskOk, workOk, refuseUnless, firstBad, refuseFirst, refusalOf}
+use Rattle.ranges.specs.Ranges.{headerRanges, headerOk, taskRanges, taskOk, workOk}
+use Rattle.refusals.specs.Refusals.{refuseUnless, firstBad, refuseFirst, refusalOf}
 use Rattle.trace.specs.Cache.{firstIn, lastIn, someIn, hits, missCount}
 use Rattle.trace.specs.Traces.{traceOf, loads, tracePD, busLoads, traceMD, evicts, useful, usefulAt, mostUseful}
 use Rattle.figures.specs.Figures.{taskPD, taskMD, evicting, figureOf}

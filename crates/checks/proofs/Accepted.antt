@@ -8,7 +8,8 @@ use lib.ListN.{length, getD}
 use borrow.Author.Tests.{leb-true}
 use Rattle.board.specs.Layout.{tasks, scratchWords}
 use Rattle.board.specs.Sound.{Between}
-use Rattle.refusals.specs.Refusals.{within, refuseUnless, refuseFirst, _orElse_, refusalOf}
+use Rattle.ranges.specs.Ranges.{within}
+use Rattle.refusals.specs.Refusals.{refuseUnless, refuseFirst, _orElse_, refusalOf}
 use Rattle.refusals.specs.declared.Verdict.the-variants.{Passed}
 use Rattle.refusals.proofs.Verdicts.{orElse-passed, refuseUnless-passed}
 use Rattle.refusals.proofs.Sound.{sound, within-true, refuseFirst-passed}

@@ -10,11 +10,12 @@ use borrow.Author.Tests.{le-leb, lt-ltb, eq-eqb, eqb-false, eqb-true, leb-true, 
 use lib.Dec.{leb, eqb}
 use Rattle.board.specs.Layout as at
 use Rattle.board.specs.Layout.{word, kindOf, blockOf}
-use Rattle.refusals.specs.Refusals.{within, rangeIf, headerRanges, headerOk, taskRanges, taskOk, lengthOk, fetchOk, workOk, firstBad, refuseFirst, refusalOf}
 use Rattle.board.specs.Sound.{Between, Sound}
+use Rattle.ranges.specs.Ranges.{within, rangeIf, headerRanges, headerOk, taskRanges, taskOk, lengthOk, fetchOk, workOk}
+use Rattle.ranges.proofs.Rows.{headerSpare, taskRow, taskSpare}
+use Rattle.refusals.specs.Refusals.{firstBad, refuseFirst, refusalOf}
 use Rattle.refusals.specs.declared.Verdict.the-variants.{Passed}
 use Rattle.refusals.proofs.Searches.{firstBad-pass, firstBad-none}
-use Rattle.refusals.proofs.Rows.{headerSpare, taskRow, taskSpare}
 use Rattle.refusals.proofs.Sound.{codeOrSets, WorkOk}
 use Rattle.refusals.proofs.Verdicts.{refuseUnless-true, refuseFirst-none, row1-passed, row2-passed, row3-passed}
 

@@ -11,12 +11,13 @@ use lib.ListN.{length, getD}
 use Rattle.folds.proofs.Numbers.{and-both}
 use Rattle.board.specs.Layout as at
 use Rattle.board.specs.Layout.{word, boardWords, kindOf, blockOf}
-use Rattle.refusals.specs.Refusals.{within, isZero, rangeIf, headerRanges, headerOk, taskRanges, taskOk, lengthOk, fetchOk, workOk, refuseUnless, firstBad, refuseFirst, _orElse_, refusalOf}
 use Rattle.board.specs.Sound.{Between, Sound}
+use Rattle.ranges.specs.Ranges.{within, isZero, rangeIf, headerRanges, headerOk, taskRanges, taskOk, lengthOk, fetchOk, workOk}
+use Rattle.ranges.proofs.Rows.{headerSpare, taskRow}
+use Rattle.refusals.specs.Refusals.{refuseUnless, firstBad, refuseFirst, _orElse_, refusalOf}
 use Rattle.refusals.specs.declared.Verdict.{Verdict}
 use Rattle.refusals.specs.declared.Verdict.the-variants.{Passed}
 use Rattle.refusals.proofs.Searches.{firstBad-all}
-use Rattle.refusals.proofs.Rows.{headerSpare, taskRow}
 use Rattle.refusals.proofs.Verdicts.{orElse-passed, refuseUnless-passed}
 
 -- from tests to facts

@@ -9,7 +9,8 @@ use borrow.Author.Tests.{le-leb, lt-leb, eq-eqb, ne-eqb}
 use lib.Dec.{eqb}
 use lib.ListN.{length}
 use Rattle.board.specs.Layout.{boardWords, mostWords}
-use Rattle.refusals.specs.Refusals.{within, headerOk, refuseUnless, firstBad, refuseFirst, _orElse_, refusalOf}
+use Rattle.ranges.specs.Ranges.{within, headerOk}
+use Rattle.refusals.specs.Refusals.{refuseUnless, firstBad, refuseFirst, _orElse_, refusalOf}
 use Rattle.refusals.specs.declared.Verdict.{Verdict}
 use Rattle.refusals.specs.declared.Verdict.the-variants.{Passed, Refused}
 

@@ -1,3 +1,2 @@
 -- Which boards are refused.
 pub mod Refusals
-pub mod Parts

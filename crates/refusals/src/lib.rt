@@ -1,5 +1,4 @@
 // The checks that a board has to pass: rows 1 to 9 of the refusal table.
-pub mod ranges;
 pub mod search;
 
 use board::MOST_WORDS;
@@ -11,8 +10,9 @@ ghost use mathlib.Core.Path.{_≡_};
 ghost use Prim.Native.Nat.{_≤_};
 ghost use lib.ListN.{length};
 ghost use Rattle.board.specs.Layout.{boardWords, mostWords};
-ghost use Rattle.refusals.specs.Refusals.{headerOk, firstBad, refuseUnless, refuseFirst, _orElse_, refusalOf};
-ghost use Rattle.refusals.specs.Parts.{wordOk};
+ghost use Rattle.ranges.specs.Ranges.{headerOk};
+ghost use Rattle.ranges.specs.Parts.{wordOk};
+ghost use Rattle.refusals.specs.Refusals.{firstBad, refuseUnless, refuseFirst, _orElse_, refusalOf};
 
 // What a check says: all is well, or the number of the row of the refusal table that refuses, and its place.
 pub enum Verdict {

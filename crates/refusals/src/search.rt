@@ -1,14 +1,14 @@
 // The loops over a board's words: the first that is out of its range, and sums.
-use super::ranges::Part;
-use super::ranges::word_ok;
 use folds::index;
+use ranges::Part;
+use ranges::word_ok;
 ghost use mathlib.Core.Path.{_≡_};
 ghost use Prim.Native.Nat.{ℕ, _+_, _*_, _≤_, _<_};
 ghost use lib.ListN.{length};
 ghost use Rattle.folds.specs.Folds.{sumTo};
 ghost use Rattle.board.specs.Layout.{word, mostWords};
+ghost use Rattle.ranges.specs.Parts.{wordOk};
 ghost use Rattle.refusals.specs.Refusals.{firstBad};
-ghost use Rattle.refusals.specs.Parts.{wordOk};
 
 // The first of the words from .. end - 1 of a part that is out of its range, and end where none is.
 pub(crate) fn first_bad(board: &[u32], part: Part, from: usize, end: usize) -> usize

@@ -4,8 +4,8 @@ use Prim.Native.Nat.{_-_}
 use mathlib.Core.Path.{_≡_, refl, sym, _∙_}
 use borrow.Author.Needs.{needs}
 use borrow.Author.Tests.{not-true, not-false}
+use Rattle.ranges.specs.Parts.{wordOk}
 use Rattle.refusals.specs.Refusals.{firstBad}
-use Rattle.refusals.specs.Parts.{wordOk}
 use Rattle.refusals.proofs.Searches.{firstBad-pass, firstBad-stop, firstBad-end}
 use Rattle.refusals.proofs.search.first_bad.Statement.{statement}
 use Rattle.refusals.proofs.search.first_bad.Tie as tie

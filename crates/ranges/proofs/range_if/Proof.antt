@@ -1,8 +1,8 @@
--- `refusals::ranges::range_if` meets its contract.
+-- `ranges::range_if` meets its contract.
 -- Assumes nothing.
 use borrow.Author.Needs.{needs}
-use Rattle.refusals.proofs.ranges.range_if.Statement.{statement}
-use Rattle.refusals.proofs.ranges.range_if.Tie as tie
+use Rattle.ranges.proofs.range_if.Statement.{statement}
+use Rattle.ranges.proofs.range_if.Tie as tie
 
 pub range-if-spec : {M : Type 1} → statement M
 range-if-spec =

@@ -1,11 +1,11 @@
--- `refusals::ranges::work_ok` meets its contract: the arm of the kind says which case of `workOk` holds.
+-- `ranges::work_ok` meets its contract: the arm of the kind says which case of `workOk` holds.
 -- Assumes nothing.
 use native.Mathlib.Nat.{le-of-suc-le-suc}
 use borrow.Author.Needs.{needs}
 use borrow.Author.Tests.{eq-eqb, ne-eqb, le-leb, lt-leb}
-use Rattle.refusals.specs.Refusals.{workOk}
-use Rattle.refusals.proofs.ranges.work_ok.Statement.{statement}
-use Rattle.refusals.proofs.ranges.work_ok.Tie as tie
+use Rattle.ranges.specs.Ranges.{workOk}
+use Rattle.ranges.proofs.work_ok.Statement.{statement}
+use Rattle.ranges.proofs.work_ok.Tie as tie
 
 pub work-ok-spec : {M : Type 1} → statement M
 unfolding workOk

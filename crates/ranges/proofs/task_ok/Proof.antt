@@ -1,11 +1,11 @@
--- `refusals::ranges::task_ok` meets its contract: in each arm the word's field is known, and its row of `taskRanges` is the arm's test.
+-- `ranges::task_ok` meets its contract: in each arm the word's field is known, and its row of `taskRanges` is the arm's test.
 -- Assumes nothing.
 use mathlib.Core.Path.{_∙_}
 use borrow.Author.Needs.{needs}
-use Rattle.refusals.specs.Refusals.{taskRanges}
-use Rattle.refusals.proofs.Rows.{taskRow, taskSpare, avoids}
-use Rattle.refusals.proofs.ranges.task_ok.Statement.{statement}
-use Rattle.refusals.proofs.ranges.task_ok.Tie as tie
+use Rattle.ranges.specs.Ranges.{taskRanges}
+use Rattle.ranges.proofs.Rows.{taskRow, taskSpare, avoids}
+use Rattle.ranges.proofs.task_ok.Statement.{statement}
+use Rattle.ranges.proofs.task_ok.Tie as tie
 
 pub task-ok-spec : {M : Type 1} → statement M
 unfolding taskRanges

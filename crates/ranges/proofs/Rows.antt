@@ -9,9 +9,9 @@ use borrow.Author.Tests.{eq-eqb, ne-eqb}
 use lib.Dec.{eqb}
 use lib.ListN.{getD, List·getD-eq-default}
 use Rattle.board.specs.Layout.{word, memory, firstDataBlock}
-use Rattle.refusals.specs.Refusals.{within, isZero, rangeIf, headerRanges, headerOk, taskRanges, taskOk}
-use Rattle.refusals.specs.Parts.{wordOk}
-use Rattle.refusals.specs.declared.ranges.Part.{Part}
+use Rattle.ranges.specs.Ranges.{within, isZero, rangeIf, headerRanges, headerOk, taskRanges, taskOk}
+use Rattle.ranges.specs.Parts.{wordOk}
+use Rattle.ranges.specs.declared.Part.{Part}
 
 -- ---- entry k of a list of ranges, and what stands past its end
 

@@ -1,11 +1,11 @@
--- `refusals::ranges::header_ok` meets its contract: in each arm the word's index is known, and its entry of `headerRanges` is the arm's test.
+-- `ranges::header_ok` meets its contract: in each arm the word's index is known, and its entry of `headerRanges` is the arm's test.
 -- Assumes nothing.
 use borrow.Author.Needs.{needs}
 use mathlib.Core.Path.{_∙_}
-use Rattle.refusals.specs.Refusals.{headerRanges}
-use Rattle.refusals.proofs.Rows.{headerRow, setsRow, heldRow, headerSpare, avoids}
-use Rattle.refusals.proofs.ranges.header_ok.Statement.{statement}
-use Rattle.refusals.proofs.ranges.header_ok.Tie as tie
+use Rattle.ranges.specs.Ranges.{headerRanges}
+use Rattle.ranges.proofs.Rows.{headerRow, setsRow, heldRow, headerSpare, avoids}
+use Rattle.ranges.proofs.header_ok.Statement.{statement}
+use Rattle.ranges.proofs.header_ok.Tie as tie
 
 pub header-ok-spec : {M : Type 1} → statement M
 unfolding headerRanges

@@ -3,9 +3,9 @@
 use Prim.Native.Nat.{ℕ}
 use mathlib.Core.Bool.{Bool}
 use mathlib.Core.List.{List}
-use Rattle.refusals.specs.Refusals.{headerOk, taskOk, lengthOk, fetchOk, workOk}
-use Rattle.refusals.specs.declared.ranges.Part.{Part}
-use Rattle.refusals.specs.declared.ranges.Part.the-variants.{Header, Tasks, Lengths, Fetches, Works}
+use Rattle.ranges.specs.Ranges.{headerOk, taskOk, lengthOk, fetchOk, workOk}
+use Rattle.ranges.specs.declared.Part.{Part}
+use Rattle.ranges.specs.declared.Part.the-variants.{Header, Tasks, Lengths, Fetches, Works}
 
 abbrev pub wordOk : Part → List ℕ → ℕ → Bool
 wordOk Header b i = headerOk b i

@@ -1,10 +1,10 @@
--- `refusals::ranges::word_ok` meets its contract: each arm is its part's case of `wordOk`.
+-- `ranges::word_ok` meets its contract: each arm is its part's case of `wordOk`.
 -- Assumes nothing.
 use mathlib.Core.Path.{_∙_}
 use borrow.Author.Needs.{needs}
-use Rattle.refusals.proofs.Rows.{partRow}
-use Rattle.refusals.proofs.ranges.word_ok.Statement.{statement}
-use Rattle.refusals.proofs.ranges.word_ok.Tie as tie
+use Rattle.ranges.proofs.Rows.{partRow}
+use Rattle.ranges.proofs.word_ok.Statement.{statement}
+use Rattle.ranges.proofs.word_ok.Tie as tie
 
 pub word-ok-spec : {M : Type 1} → statement M
 word-ok-spec =

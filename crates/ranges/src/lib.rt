@@ -6,9 +6,9 @@ use board::work;
 ghost use mathlib.Core.Path.{_≡_};
 ghost use Prim.Native.Nat.{_≤_, _<_};
 ghost use lib.ListN.{length};
-ghost use Rattle.refusals.specs.Refusals.{headerOk, taskOk, workOk, rangeIf};
-ghost use Rattle.refusals.specs.Refusals.{within as Refusals·within};
-ghost use Rattle.refusals.specs.Parts.{wordOk};
+ghost use Rattle.ranges.specs.Ranges.{headerOk, taskOk, workOk, rangeIf};
+ghost use Rattle.ranges.specs.Ranges.{within as Ranges·within};
+ghost use Rattle.ranges.specs.Parts.{wordOk};
 
 // The parts of a board whose words are tested, in their order.
 pub enum Part {
@@ -21,7 +21,7 @@ pub enum Part {
 
 // Whether x is in low .. high.
 pub fn within(low: u32, high: u32, x: u32) -> bool
-    ensures { λ r. ⌜ r ≡ Refusals·within low high x ⌝ }
+    ensures { λ r. ⌜ r ≡ Ranges·within low high x ⌝ }
 {
     (low <= x) & (x <= high)
 }
@@ -100,7 +100,7 @@ fn work_ok(board: &[u32], i: usize) -> bool
 }
 
 // Whether word i of the board is in its range, as a word of that part.
-pub(crate) fn word_ok(board: &[u32], part: Part, i: usize) -> bool
+pub fn word_ok(board: &[u32], part: Part, i: usize) -> bool
     requires { ⌜ (20 ≤ length (now board)) × (i < length (now board)) ⌝ }
     ensures { λ r. ⌜ r ≡ wordOk part (now (board .entry)) i ⌝ }
 {

@@ -1,0 +1,2 @@
+-- The laws of the ranges.
+pub mod Rows

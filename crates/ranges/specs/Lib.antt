@@ -1,0 +1,3 @@
+-- The range of each word of a board.
+pub mod Ranges
+pub mod Parts
