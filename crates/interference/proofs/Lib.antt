@@ -1,7 +1,3 @@
--- The laws of the sums over other cores.
-pub mod Numbers
-pub mod Cores
-pub mod BySide
-pub mod ByCore
-pub mod Bounds
+-- The laws of the interference by the bus, and of a sum by its parts.
+pub mod Buses
 pub mod Parts

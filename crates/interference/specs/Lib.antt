@@ -1,3 +1,2 @@
--- The parts of a sum, and what the sums over other cores add up.
+-- The parts of a sum.
 pub mod Parts
-pub mod Terms

@@ -1,12 +1,12 @@
 // The accesses of other cores that can delay a task, by the bus.
-use crate::sides::sides;
-use crate::slots::sum_capped;
-use crate::tables::by_core;
 use board::fields::bus;
 use board::fields::core;
 use board::fields::cores;
 use board::fields::slots_each;
 use board::fields::tasks;
+use carried::sides::sides;
+use carried::slots::sum_capped;
+use carried::tables::by_core;
 use folds::index;
 use folds::smaller;
 use folds::wide;

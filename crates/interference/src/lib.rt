@@ -12,9 +12,6 @@ ghost use Rattle.sums.specs.Inputs.{SumInput};
 ghost use Rattle.interference.specs.Parts.{sumParts};
 
 mod bus;
-mod sides;
-mod slots;
-mod tables;
 
 // The parts of a sum, in cycles: PD, the PD of higher tasks, the accesses of its own core, of other cores, and the one under way,
 // and the refreshes.

@@ -2,7 +2,7 @@
 -- Assumes nothing.
 use borrow.Author.Needs.{needs}
 use native.Mathlib.Omega.{arith}
-use Rattle.interference.proofs.BySide.{fifo-is}
+use Rattle.interference.proofs.Buses.{fifo-is}
 use Rattle.interference.proofs.bus.fifo.Statement.{statement}
 use Rattle.interference.proofs.bus.fifo.Tie as tie
 

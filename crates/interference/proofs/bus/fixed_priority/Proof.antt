@@ -2,7 +2,7 @@
 -- Assumes nothing.
 use borrow.Author.Needs.{needs}
 use native.Mathlib.Omega.{arith}
-use Rattle.interference.proofs.BySide.{fixed-priority-is}
+use Rattle.interference.proofs.Buses.{fixed-priority-is}
 use Rattle.interference.proofs.bus.fixed_priority.Statement.{statement}
 use Rattle.interference.proofs.bus.fixed_priority.Tie as tie
 

@@ -4,7 +4,7 @@ use borrow.Author.Needs.{needs}
 use mathlib.Core.Path.{_≡_, sym, _∙_}
 use lib.Dec.{lit≤}
 use native.Mathlib.Nat.{le-trans, le-of-eq}
-use Rattle.interference.proofs.Numbers.{is-four}
+use Rattle.interference.proofs.Buses.{is-four}
 use Rattle.sums.proofs.Bounds.{ownAccesses-bound}
 use Rattle.interference.proofs.bus.interference.Statement.{statement}
 use Rattle.interference.proofs.bus.interference.Tie as tie

@@ -2,7 +2,7 @@
 -- Assumes nothing.
 use borrow.Author.Needs.{needs}
 use native.Mathlib.Omega.{arith}
-use Rattle.interference.proofs.BySide.{processor-priority-is}
+use Rattle.interference.proofs.Buses.{processor-priority-is}
 use Rattle.interference.proofs.bus.processor_priority.Statement.{statement}
 use Rattle.interference.proofs.bus.processor_priority.Tie as tie
 

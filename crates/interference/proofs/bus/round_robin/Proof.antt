@@ -6,8 +6,8 @@ use native.Mathlib.Omega.{arith}
 use mathlib.Core.Path.{_∙_}
 use Prim.Native.Nat.{_+_}
 use Rattle.sums.proofs.Bounds.{ownAccesses-bound}
-use Rattle.interference.proofs.ByCore.{round-robin-is}
-use Rattle.interference.proofs.Bounds.{carriedFrom-bound}
+use Rattle.carried.proofs.Bounds.{carriedFrom-bound}
+use Rattle.interference.proofs.Buses.{round-robin-is}
 use Rattle.interference.proofs.bus.round_robin.Statement.{statement}
 use Rattle.interference.proofs.bus.round_robin.Tie as tie
 

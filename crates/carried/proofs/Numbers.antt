@@ -4,10 +4,6 @@ use Prim.Native.Nat.{ℕ, _≤_, _<_}
 use mathlib.Core.Logic.{⊎-elim}
 use mathlib.Core.Path.{_≡_, sym}
 use native.Mathlib.Nat.{eq-or-lt-of-le}
-use native.Mathlib.Omega.{arith}
 
 pub apart : {x y : ℕ} → x ≤ y → (y ≡ x → ⊥) → x < y
 apart h n = ⊎-elim (λ e. absurd (n (sym e))) (λ l. l) (eq-or-lt-of-le h)
-
-pub is-four : (n : ℕ) → n ≤ 4 → (n ≡ 0 → ⊥) → (n ≡ 1 → ⊥) → (n ≡ 2 → ⊥) → (n ≡ 3 → ⊥) → n ≡ 4
-is-four n h zero one two three = omega arith

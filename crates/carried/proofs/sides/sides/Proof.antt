@@ -1,4 +1,4 @@
--- `interference::sides::sides` meets its contract.
+-- `carried::sides::sides` meets its contract.
 -- Assumes nothing.
 use borrow.Author.Needs.{needs}
 use native.Mathlib.Nat.{le-trans, le-of-eq}
@@ -10,11 +10,11 @@ use lib.Dec.{ltb}
 use Rattle.folds.specs.Folds.{sumTo}
 use Rattle.folds.proofs.Loops.{at-end}
 use Rattle.sums.specs.Limits.{mostAccesses}
-use Rattle.interference.specs.Terms.{carriedIf, carriedBy}
-use Rattle.interference.proofs.BySide.{carried-none, carried-turn}
-use Rattle.interference.proofs.Bounds.{carriedIf-bound}
-use Rattle.interference.proofs.sides.sides.Statement.{statement}
-use Rattle.interference.proofs.sides.sides.Tie as tie
+use Rattle.carried.specs.Terms.{carriedIf, carriedBy}
+use Rattle.carried.proofs.BySide.{carried-none, carried-turn}
+use Rattle.carried.proofs.Bounds.{carriedIf-bound}
+use Rattle.carried.proofs.sides.sides.Statement.{statement}
+use Rattle.carried.proofs.sides.sides.Tie as tie
 
 abbrev Inv-loop : tie.InvT-loop
 Inv-loop board row times t x j a sums₀ k₀ sums k =

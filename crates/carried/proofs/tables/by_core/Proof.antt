@@ -1,4 +1,4 @@
--- `interference::tables::by_core` meets its contract.
+-- `carried::tables::by_core` meets its contract.
 -- Assumes nothing.
 use borrow.Author.Needs.{needs}
 use native.Mathlib.Omega.{arith}
@@ -10,11 +10,11 @@ use Rattle.folds.specs.Folds.{when, sumTo}
 use Rattle.board.specs.Layout.{core}
 use Rattle.sums.specs.Limits.{mostCores}
 use Rattle.sums.specs.Inputs.{Holds}
-use Rattle.interference.specs.Terms.{carriedOff, carriedFrom}
-use Rattle.interference.proofs.ByCore.{table-none, table-turn, table-end}
-use Rattle.interference.proofs.Bounds.{carriedOff-bound, onCore-bound}
-use Rattle.interference.proofs.tables.by_core.Statement.{statement}
-use Rattle.interference.proofs.tables.by_core.Tie as tie
+use Rattle.carried.specs.Terms.{carriedOff, carriedFrom}
+use Rattle.carried.proofs.ByCore.{table-none, table-turn, table-end}
+use Rattle.carried.proofs.Bounds.{carriedOff-bound, onCore-bound}
+use Rattle.carried.proofs.tables.by_core.Statement.{statement}
+use Rattle.carried.proofs.tables.by_core.Tie as tie
 
 abbrev Inv-loop : tie.InvT-loop
 Inv-loop board row times t x j table₀ k₀ table k =

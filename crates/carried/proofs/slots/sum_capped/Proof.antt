@@ -1,4 +1,4 @@
--- `interference::slots::sum_capped` meets its contract.
+-- `carried::slots::sum_capped` meets its contract.
 -- Assumes nothing.
 use borrow.Author.Needs.{needs}
 use native.Mathlib.Omega.{arith}
@@ -12,9 +12,9 @@ use Rattle.folds.proofs.Loops.{at-end, sumTo-turn, sumTo-fits}
 use Rattle.board.specs.Layout.{slots}
 use Rattle.sums.specs.Limits.{mostSlots, mostOwnAccesses}
 use Rattle.sums.proofs.Numbers.{product-fits}
-use Rattle.interference.proofs.Bounds.{capped-bound}
-use Rattle.interference.proofs.slots.sum_capped.Statement.{statement}
-use Rattle.interference.proofs.slots.sum_capped.Tie as tie
+use Rattle.carried.proofs.Bounds.{capped-bound}
+use Rattle.carried.proofs.slots.sum_capped.Statement.{statement}
+use Rattle.carried.proofs.slots.sum_capped.Tie as tie
 
 abbrev Inv-loop : tie.InvT-loop
 Inv-loop board s table n sum₀ y₀ sum y = (y ≤ n) × (sum ≡ sumTo (λ k. min (getD table k 0) (slots board (k + 1) * s)) y)

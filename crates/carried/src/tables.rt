@@ -7,7 +7,7 @@ ghost use Prim.Native.Nat.{_+_, _<_, _≤_};
 ghost use Rattle.board.specs.Layout as at;
 ghost use Rattle.sums.specs.Limits.{mostCores, latestTime};
 ghost use Rattle.sums.specs.Inputs.{Holds, RowInput};
-ghost use Rattle.interference.specs.Terms.{carriedOff, carriedFrom};
+ghost use Rattle.carried.specs.Terms.{carriedOff, carriedFrom};
 
 // W(j, k) within t cycles, and 0 if task k is on core x.
 fn carry_off(board: &[u32], row: &[u32], times: &[u32], t: u64, x: u32, j: usize, k: usize) -> u64

@@ -1,6 +1,6 @@
--- The accesses of the tasks off a core, core by core: tables of sums, and the interference on bus 3 from them.
+-- The accesses of the tasks off a core, core by core: tables of sums, and the sum of one core joined to the definitions.
 -- Assumes nothing.
-use Prim.Native.Nat.{ℕ, _+_, _*_, _≤_, _<_, min}
+use Prim.Native.Nat.{ℕ, _+_, _≤_, _<_}
 use mathlib.Core.Bool.{Bool, true, false, not}
 use mathlib.Core.List.{List}
 use mathlib.Core.Path.{_≡_, refl, sym, ap, ap₂, subst, _∙_}
@@ -13,11 +13,10 @@ use lib.Seq.{getD-set-same, getD-set-other}
 use borrow.Author.Tests.{eq-eqb, ne-eqb}
 use Rattle.folds.specs.Folds.{when, sumTo}
 use Rattle.folds.proofs.Folds.{sumTo-none, sumTo-next, sumTo-cong, when-sum}
-use Rattle.board.specs.Layout.{cores, slots, core}
-use Rattle.sums.specs.Sums.{lowest, ownAccesses, carryIn, coreAccesses, interference}
-use Rattle.sums.specs.Limits.{mostCores}
+use Rattle.board.specs.Layout.{core}
+use Rattle.sums.specs.Sums.{carryIn, coreAccesses}
 use Rattle.sums.specs.Inputs.{Holds}
-use Rattle.interference.specs.Terms.{carriedFrom}
+use Rattle.carried.specs.Terms.{carriedFrom}
 
 -- ---- a table of n sums, place z having those k that stand at z + 1: no k yet, one more k, and all k below m
 
@@ -43,15 +42,11 @@ table-turn at w n k {t} {y} {v} h l e add =
 pub table-end : (f : ℕ → ℕ → ℕ) (n : ℕ) {t : List ℕ} {k m : ℕ} → Holds n (λ z. sumTo (f z) k) t → k ≤ m → m ≤ k → Holds n (λ z. sumTo (f z) m) t
 table-end f n {t} h p q = subst (λ (m : ℕ). Holds n (λ z. sumTo (f z) m) t) (le-antisymm p q) h
 
--- ---- the interference
+-- ---- the sum of one core
 
 when-zero : (t : Bool) → when t 0 ≡ 0
 when-zero true = refl
 when-zero false = refl
-
-when-min : (t : Bool) (v cap : ℕ) → min (when t v) cap ≡ when t (min v cap)
-when-min true v cap = refl
-when-min false v cap = omega arith
 
 -- on core y, and off core x: on core y, unless that is x
 off-core : (c x y v : ℕ) → when (eqb c y) (when (not (eqb c x)) v) ≡ when (not (eqb y x)) (when (eqb c y) v)
@@ -61,21 +56,8 @@ off-core c x y v = go (ℕ-discrete c y)
     go (yes e) = rw (eq-eqb c y e) (ap (λ (z : ℕ). when (not (eqb z x)) v) e)
     go (no n) = rw (ne-eqb c y n) (sym (when-zero (not (eqb y x))))
 
-carriedFrom-is : (b R : List ℕ) (t x j y : ℕ) → carriedFrom b R t x j y ≡ when (not (eqb y x)) (coreAccesses b R t j y)
+pub carriedFrom-is : (b R : List ℕ) (t x j y : ℕ) → carriedFrom b R t x j y ≡ when (not (eqb y x)) (coreAccesses b R t j y)
 unfolding carriedFrom coreAccesses
 carriedFrom-is b R t x j y =
     sumTo-cong _ _ (j + 1) (λ k h. off-core (core b k) x y (carryIn b R t j k))
     ∙ sym (when-sum (not (eqb y x)) (λ k. when (eqb (core b k) y) (carryIn b R t j k)) (j + 1))
-
--- t, x and j are the time and the core of task i, and task n, as code computes them
-pub round-robin-is : (b R : List ℕ) (i : ℕ) (table : List ℕ) {t x j s : ℕ} → t ≡ getD R i 0 → x ≡ core b i → j ≡ lowest b
-    → Holds mostCores (λ y. carriedFrom b R t x j (y + 1)) table → cores b ≤ mostCores → s ≡ ownAccesses b R i
-    → sumTo (λ y. min (getD table y 0) (slots b (y + 1) * s)) (cores b) ≡ interference b R i 3
-unfolding interference
-round-robin-is b R i table now here last h few own =
-    ap (λ (s : ℕ). sumTo (λ y. min (getD table y 0) (slots b (y + 1) * s)) (cores b)) own
-    ∙ sumTo-cong _ _ (cores b)
-    (λ y l.
-    let cap = slots b (y + 1) * ownAccesses b R i in
-    ap (λ (v : ℕ). min v cap) (h .at y (omega arith) ∙ rw (now, here, last) (carriedFrom-is b R (getD R i 0) (core b i) (lowest b) (y + 1)))
-    ∙ when-min (not (eqb (y + 1) (core b i))) (coreAccesses b R (getD R i 0) (lowest b) (y + 1)) cap)

@@ -9,7 +9,7 @@ ghost use Rattle.board.specs.Layout as at;
 ghost use Rattle.sums.specs.Sums.{carryIn};
 ghost use Rattle.sums.specs.Limits.{latestTime, mostAccesses};
 ghost use Rattle.sums.specs.Inputs.{RowInput};
-ghost use Rattle.interference.specs.Terms.{carriedBy};
+ghost use Rattle.carried.specs.Terms.{carriedBy};
 
 // Accesses from the cores before one core, and from the cores after it.
 pub struct SideSums {

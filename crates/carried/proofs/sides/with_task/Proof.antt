@@ -1,15 +1,15 @@
--- `interference::sides::with_task` meets its contract.
+-- `carried::sides::with_task` meets its contract.
 -- Assumes nothing.
 use borrow.Author.Needs.{needs}
 use native.Mathlib.Omega.{arith}
 use mathlib.Core.Path.{refl}
 use Prim.Native.Nat.{_≤_}
-use Rattle.interference.proofs.Numbers.{apart}
+use Rattle.carried.proofs.Numbers.{apart}
 use Rattle.sums.specs.Limits.{mostCarryIn}
 use Rattle.sums.proofs.Bounds.{carryIn-bound}
-use Rattle.interference.proofs.BySide.{add-below, add-beyond}
-use Rattle.interference.proofs.sides.with_task.Statement.{statement}
-use Rattle.interference.proofs.sides.with_task.Tie as tie
+use Rattle.carried.proofs.BySide.{add-below, add-beyond}
+use Rattle.carried.proofs.sides.with_task.Statement.{statement}
+use Rattle.carried.proofs.sides.with_task.Tie as tie
 
 few : (c : tie.After-carry-in) → c .carry-in .result ≤ mostCarryIn
 few c =

@@ -15,7 +15,7 @@ use Rattle.sums.specs.Sums.{carryIn}
 use Rattle.sums.specs.Limits.{mostCores, latestTime, mostCarryIn, mostAccesses}
 use Rattle.sums.specs.Inputs.{RowInput}
 use Rattle.sums.proofs.Bounds.{where-bound, carryIn-bound}
-use Rattle.interference.specs.Terms.{carriedIf, carriedOff, carriedFrom}
+use Rattle.carried.specs.Terms.{carriedIf, carriedOff, carriedFrom}
 
 module _ (b row R : List ℕ) (j t : ℕ) (h : RowInput b row R j) (early : t ≤ latestTime) where
   carry : (k : ℕ) → k < tasks b → carryIn b R t j k ≤ mostCarryIn

@@ -1,0 +1,2 @@
+-- What the sums over the tasks off a core add up.
+pub mod Terms
