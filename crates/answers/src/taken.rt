@@ -69,5 +69,5 @@ pub fn overhead(board: &[u32], i: usize, j: usize) -> u64
     requires { ⌜ OverheadTaken (now board) i j ⌝ }
     ensures { λ r. ⌜ r ≡ γ (now (board .entry)) (i - 1) (j - 1) ⌝ }
 {
-    wide(figures::survey::overhead(board, i - 1, j - 1))
+    wide(survey::overhead(board, i - 1, j - 1))
 }

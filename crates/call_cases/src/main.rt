@@ -2,8 +2,8 @@
 // the words that the call takes beside the board, which is that of the last line with one. The input is made of blocks of 65,536 bytes, at most 64, each
 // with whole lines of which the first has a board; a line of dots fills a block up.
 mod analyse;
+mod board_figures;
 mod board_page;
-mod survey;
 mod verdict;
 mod weigh;
 
@@ -72,7 +72,7 @@ fn answer(words: &[u32], board: &[u32]) {
 fn answer_call(call: u32, given: &[u32], board: &[u32]) {
     match call {
         1 => verdict::answer(board),
-        2 => survey::answer(board),
+        2 => board_figures::answer(board),
         3 => weigh::answer(given, board),
         4 => analyse::answer(board),
         5 => board_page::answer(board),

@@ -54,7 +54,7 @@ pub fn figures(
     match check_figures(board, room) {
         Verdict::Passed => {
             let n = index(board::fields::tasks(board));
-            figures::survey::survey(board, n, false, words, sets);
+            survey::survey(board, n, false, words, sets);
             *records = n;
             Outcome::Value(n as u64)
         }

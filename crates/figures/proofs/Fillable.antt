@@ -3,12 +3,20 @@
 use Prim.Native.Nat.{ℕ, _*_, _≤_}
 use mathlib.Core.List.{List}
 use mathlib.Core.Path.{_≡_, sym, subst}
+use native.Mathlib.Nat.{not-suc-le-zero}
 use native.Mathlib.Omega.{arith}
 use lib.ListN.{length}
 use Rattle.board.specs.Layout.{tasks}
 use Rattle.board.specs.Sound.{Sound}
 use Rattle.figures.specs.Survey.{Held, Fillable}
-use Rattle.figures.proofs.Held.{held-none}
+
+-- the figures of no task
+pub held-none : (b : List ℕ) (n : ℕ) (words sets : List ℕ) → Held b n 0 words sets
+held-none b n words sets = record {
+  pd = λ k h. absurd (not-suc-le-zero h);
+  md = λ k h. absurd (not-suc-le-zero h);
+  ecb = λ k h. absurd (not-suc-le-zero h);
+}
 
 -- every task
 pub fillable-tasks : {b : List ℕ} {n : ℕ} {words sets : List ℕ} → Sound b → n ≡ tasks b → 4 * n ≤ length words → Held b n n words sets

@@ -1,9 +1,5 @@
--- The laws of the walk over all tasks and their traces, and of the overhead.
-pub mod Sets
+-- The laws of the figures of a task, and of the overhead.
 pub mod Overhead
-pub mod Evicted
 pub mod Rows
-pub mod Passed
-pub mod Held
 pub mod Fillable
 pub mod Bounds

@@ -1,6 +1,5 @@
 // The figures of a task, and the pre-emption overhead.
-mod row;
-pub mod survey;
+pub mod row;
 
 use bitset::records::read;
 use board::fields;

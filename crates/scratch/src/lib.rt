@@ -43,7 +43,7 @@ pub fn prepare(board: &[u32], n: usize, scratch: &mut [u32], sets: &mut [u64; 25
     ensures { λ _. ⌜ (Prepared (now (board .entry)) n (now (scratch .exit))) × (length (now (scratch .exit)) ≡ length (now (scratch .entry)))
         × (Held (now (board .entry)) n n (now (scratch .exit)) (now (sets .exit))) ⌝ }
 {
-    figures::survey::survey(board, n, true, scratch, sets);
+    survey::survey(board, n, true, scratch, sets);
     add_md(n, scratch);
 }
 

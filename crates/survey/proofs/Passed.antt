@@ -11,11 +11,11 @@ use Rattle.bitset.specs.Bits.{member, wordsOf}
 use Rattle.board.specs.Layout.{traceCount}
 use Rattle.trace.specs.Traces.{Trace, traceOf, tracePD, traceMD, evicts, mostUseful}
 use Rattle.trace.specs.Starts.{At}
 use Rattle.figures.specs.Figures.{taskTrace, taskPD, taskMD, evicting}
 use Rattle.figures.specs.Overhead.{evictedBy, reloads}
 use Rattle.figures.specs.Rows.{onCoreOf, raised}
-use Rattle.figures.proofs.Sets.{joined-none, joined-turn}
-use Rattle.figures.proofs.Rows.{addedBy, added-none, added-turn, added-all}
+use Rattle.survey.proofs.Sets.{joined-none, joined-turn}
+use Rattle.survey.proofs.Rows.{addedBy, added-none, added-turn, added-all}
 
 -- the largest number of one trace more
 largest-turn : (F : Trace → ℕ) (b : List ℕ) (k r trace start : ℕ) {acc x : ℕ} → At b k r trace start

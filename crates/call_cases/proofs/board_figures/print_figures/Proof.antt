@@ -1,9 +1,9 @@
--- `call_cases::survey::print_figures` is safe and ends.
+-- `call_cases::board_figures::print_figures` is safe and ends.
 -- Assumes nothing.
 use Prim.Native.Nat.{_-_}
 use borrow.Author.Needs.{needs}
-use Rattle.call_cases.proofs.survey.print_figures.Statement.{statement}
-use Rattle.call_cases.proofs.survey.print_figures.Tie as tie
+use Rattle.call_cases.proofs.board_figures.print_figures.Statement.{statement}
+use Rattle.call_cases.proofs.board_figures.print_figures.Tie as tie
 
 abbrev Inv : tie.InvT-loop
 Inv board n words sets k₀ k = Unit {0}

@@ -1,9 +1,9 @@
 // One walk over all tasks and their traces, for PD, MD, ECB and the overheads.
-use super::row;
 use bitset::records::read;
 use bitset::records::write;
 use board::MOST_SCRATCH;
 use board::fields;
+use figures::row;
 use folds::index;
 use folds::larger;
 use folds::words::copy_at;

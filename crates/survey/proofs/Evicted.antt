@@ -16,10 +16,10 @@ use Rattle.bitset.specs.Records.{recordAt}
 use Rattle.bitset.proofs.Sets.{wordsOf-cong, member-wordsOf}
 use Rattle.bitset.proofs.Buffers.{record-empty, records-next}
 use Rattle.board.specs.Layout.{core}
 use Rattle.figures.specs.Figures.{evicting}
 use Rattle.figures.specs.Overhead.{evictedBy}
 use Rattle.figures.specs.Rows.{onCore, Cores}
-use Rattle.figures.proofs.Sets.{joined-none}
+use Rattle.survey.proofs.Sets.{joined-none}
 
 module _ (b : List ℕ) where
   pub cores-none : Cores b 0 (replicate 36 0)

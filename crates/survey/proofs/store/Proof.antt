@@ -1,4 +1,4 @@
--- `figures::survey::store` meets its contract.
+-- `survey::store` meets its contract.
 -- Assumes nothing.
 use Prim.Native.Nat.{ℕ, _+_, _*_}
 use mathlib.Core.Bool.{false≢true}
@@ -9,9 +9,9 @@ use native.Mathlib.Omega.{arith}
 use borrow.Author.Needs.{needs}
 use lib.ListN.{length, set, length-set}
 use Rattle.folds.proofs.Stored.{stored-none}
-use Rattle.figures.proofs.Held.{stored}
-use Rattle.figures.proofs.survey.store.Statement.{statement}
-use Rattle.figures.proofs.survey.store.Tie as tie
+use Rattle.survey.proofs.Held.{stored}
+use Rattle.survey.proofs.store.Statement.{statement}
+use Rattle.survey.proofs.store.Tie as tie
 
 -- the words with PD and MD
 abbrev two : tie.Start → List ℕ

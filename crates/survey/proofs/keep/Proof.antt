@@ -1,4 +1,4 @@
--- `figures::survey::keep` meets its contract.
+-- `survey::keep` meets its contract.
 -- Assumes nothing.
 use mathlib.Core.Bool.{_||_}
 use mathlib.Core.Path.{_≡_, ap, _∙_}
@@ -6,12 +6,12 @@ use denote.Ref.{now}
 use native.Mathlib.Omega.{arith}
 use borrow.Author.Needs.{needs}
 use Rattle.bitset.specs.Bits.{member, wordsOf}
 use Rattle.figures.specs.Figures.{evicting}
 use Rattle.figures.specs.Overhead.{evictedBy}
 use Rattle.bitset.proofs.Buffers.{records-next}
-use Rattle.figures.proofs.Evicted.{cores-next, joined-core}
-use Rattle.figures.proofs.survey.keep.Statement.{statement}
-use Rattle.figures.proofs.survey.keep.Tie as tie
+use Rattle.survey.proofs.Evicted.{cores-next, joined-core}
+use Rattle.survey.proofs.keep.Statement.{statement}
+use Rattle.survey.proofs.keep.Tie as tie
 
 returns : tie.Need-returns
 returns c =

@@ -1,4 +1,4 @@
--- `figures::survey::survey` meets its contract. The invariant: the figures, the sets evicted and the rows of the tasks passed.
+-- `survey::survey` meets its contract. The invariant: the figures, the sets evicted and the rows of the tasks passed.
 -- Assumes nothing.
 use Prim.Native.Nat.{ℕ, _+_, _*_, _-_, _≤_, _<_}
 use mathlib.Core.Bool.{true}
@@ -10,15 +10,16 @@ use native.Mathlib.Omega.{arith}
 use borrow.Author.Needs.{needs}
 use lib.ListN.{length}
 use Rattle.board.specs.Layout.{tasks}
 use Rattle.figures.specs.Ready.{Ready}
 use Rattle.trace.specs.Starts.{At}
 use Rattle.figures.specs.Rows.{Evicted, Cores}
 use Rattle.figures.specs.Survey.{Held, Overheads}
-use Rattle.figures.proofs.Evicted.{cores-none}
-use Rattle.figures.proofs.Rows.{Row, row-none, row-next}
-use Rattle.figures.proofs.Held.{held-none, held-next, overheads-next}
-use Rattle.figures.proofs.survey.survey.Statement.{statement}
-use Rattle.figures.proofs.survey.survey.Tie as tie
+use Rattle.figures.proofs.Fillable.{held-none}
+use Rattle.survey.proofs.Evicted.{cores-none}
+use Rattle.survey.proofs.Rows.{Row, row-none, row-next}
+use Rattle.survey.proofs.Held.{held-next, overheads-next}
+use Rattle.survey.proofs.survey.Statement.{statement}
+use Rattle.survey.proofs.survey.Tie as tie
 
 abbrev Inv : tie.InvT-loop
 Inv b count rows words₀ sets₀ n cores₀ evicted₀ row₀ marks₀ lives₀ at₀ i₀ words sets cores evicted row marks lives at i =

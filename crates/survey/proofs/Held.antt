@@ -5,23 +5,16 @@ use mathlib.Core.Bool.{Bool, true}
 use mathlib.Core.List.{List}
 use mathlib.Core.Path.{_≡_, sym, ap, _∙_}
 use native.Mathlib.Decide.{ℕ-discrete}
-use native.Mathlib.Nat.{not-suc-le-zero}
 use native.Mathlib.Omega.{arith}
 use lib.ListN.{length, getD, set, length-set}
 use lib.Seq.{getD-set-same, getD-set-other}
 use Rattle.folds.specs.Stored.{Stored}
 use Rattle.figures.specs.Figures.{taskPD, taskMD}
 use Rattle.figures.specs.Overhead.{γ}
 use Rattle.figures.specs.Rows.{Evicting}
 use Rattle.figures.specs.Survey.{Held, Overheads, Written}
-use Rattle.figures.proofs.Rows.{Row, row-overhead, row-within}
-
-pub held-none : (b : List ℕ) (n : ℕ) (words sets : List ℕ) → Held b n 0 words sets
-held-none b n words sets = record {
-  pd = λ k h. absurd (not-suc-le-zero h);
-  md = λ k h. absurd (not-suc-le-zero h);
-  ecb = λ k h. absurd (not-suc-le-zero h);
-}
+use Rattle.figures.proofs.Rows.{row-within}
+use Rattle.survey.proofs.Rows.{Row, row-overhead}
 
 -- two words stored, and then m words of a row
 pub stored : (n i p q m : ℕ) {at : ℕ} (rows : Bool) (row words after : List ℕ) → i < n → 4 * n ≤ length words → (rows ≡ true → n ≤ m) → at ≡ 4 * n + i * n

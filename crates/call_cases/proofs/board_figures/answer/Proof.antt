@@ -1,4 +1,4 @@
--- `call_cases::survey::answer` prints the figures of a board that passes its checks, which is `Sound`.
+-- `call_cases::board_figures::answer` prints the figures of a board that passes its checks, which is `Sound`.
 -- Assumes nothing.
 use mathlib.Core.Path.{_≡_}
 use denote.Ref.{now}
@@ -6,8 +6,8 @@ use borrow.Author.Needs.{needs}
 use Rattle.refusals.specs.Refusals.{refusalOf}
 use Rattle.refusals.specs.declared.Verdict.the-variants.{Passed}
 use Rattle.refusals.proofs.Sound.{sound}
-use Rattle.call_cases.proofs.survey.answer.Statement.{statement}
-use Rattle.call_cases.proofs.survey.answer.Tie as tie
+use Rattle.call_cases.proofs.board_figures.answer.Statement.{statement}
+use Rattle.call_cases.proofs.board_figures.answer.Tie as tie
 
 passed : tie.Need-print-board-requires
 passed c κs =

@@ -1,4 +1,4 @@
--- `call_cases::survey::print_board` is safe: 4,352 words hold the figures and overheads of 64 tasks.
+-- `call_cases::board_figures::print_board` is safe: 4,352 words hold the figures and overheads of 64 tasks.
 -- Assumes nothing.
 use Prim.Native.Nat.{_*_, _≤_}
 use denote.Ref.{now}
@@ -6,8 +6,8 @@ use native.Mathlib.Omega.{arith}
 use borrow.Author.Needs.{needs}
 use Rattle.board.specs.Layout.{tasks}
 use Rattle.board.proofs.Extents.{square-fits}
-use Rattle.call_cases.proofs.survey.print_board.Statement.{statement}
-use Rattle.call_cases.proofs.survey.print_board.Tie as tie
+use Rattle.call_cases.proofs.board_figures.print_board.Statement.{statement}
+use Rattle.call_cases.proofs.board_figures.print_board.Tie as tie
 
 room : tie.Need-survey-requires
 room c κs =

@@ -1,9 +1,9 @@
--- `call_cases::survey::print_last` is safe and ends.
+-- `call_cases::board_figures::print_last` is safe and ends.
 -- Assumes nothing.
 use Prim.Native.Nat.{_-_}
 use borrow.Author.Needs.{needs}
-use Rattle.call_cases.proofs.survey.print_last.Statement.{statement}
-use Rattle.call_cases.proofs.survey.print_last.Tie as tie
+use Rattle.call_cases.proofs.board_figures.print_last.Statement.{statement}
+use Rattle.call_cases.proofs.board_figures.print_last.Tie as tie
 
 abbrev Inv : tie.InvT-loop
 Inv board n j₀ j = Unit {0}

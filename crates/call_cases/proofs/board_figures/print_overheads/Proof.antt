@@ -1,11 +1,11 @@
--- `call_cases::survey::print_overheads` is safe and ends: n rows of n words fit.
+-- `call_cases::board_figures::print_overheads` is safe and ends: n rows of n words fit.
 -- Assumes nothing.
 use Prim.Native.Nat.{_+_, _*_, _-_, _≤_}
 use native.Mathlib.Omega.{arith}
 use borrow.Author.Needs.{needs}
 use Rattle.figures.proofs.Rows.{row-within}
-use Rattle.call_cases.proofs.survey.print_overheads.Statement.{statement}
-use Rattle.call_cases.proofs.survey.print_overheads.Tie as tie
+use Rattle.call_cases.proofs.board_figures.print_overheads.Statement.{statement}
+use Rattle.call_cases.proofs.board_figures.print_overheads.Tie as tie
 
 abbrev Inv : tie.InvT-loop
 Inv n words i₀ i = Unit {0}

@@ -1,4 +1,4 @@
--- `figures::survey::overhead` meets its contract.
+-- `survey::overhead` meets its contract.
 -- Assumes nothing.
 use Prim.Native.Nat.{ℕ, _+_, _*_, _<_}
 use mathlib.Core.Path.{_≡_, refl, ap, _∙_}
@@ -8,8 +8,8 @@ use borrow.Author.Needs.{needs}
 use lib.ListN.{getD}
 use Rattle.board.specs.Layout.{tasks, mostScratch}
 use Rattle.board.proofs.Extents.{scratch-fits}
-use Rattle.figures.proofs.survey.overhead.Statement.{statement}
-use Rattle.figures.proofs.survey.overhead.Tie as tie
+use Rattle.survey.proofs.overhead.Statement.{statement}
+use Rattle.survey.proofs.overhead.Tie as tie
 
 size : (c : tie.After-index) → c .index .result ≡ tasks (now (c .before .before .before .args .board))
 size c = c .index .ensures .0 ∙ c .before .tasks .ensures .0

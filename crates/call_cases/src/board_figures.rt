@@ -1,8 +1,6 @@
-// Call 2: the figures and the overheads of a board, by `figures::survey`.
+// Call 2: the figures and the overheads of a board, by the crate `survey`.
 use board::MOST_SCRATCH;
 use board::fields;
-use figures::survey::overhead;
-use figures::survey::survey;
 use folds::index;
 use folds::wide;
 use libc::STDOUT_FILENO;
@@ -11,6 +9,8 @@ use lines::print::print_field;
 use lines::print::print_fields;
 use lines::print::print_refusal;
 use refusals::Verdict;
+use survey::overhead;
+use survey::survey;
 ghost use mathlib.Core.Path.{_≡_};
 ghost use Prim.Native.Nat.{_+_, _*_, _<_, _≤_};
 ghost use lib.ListN.{length};

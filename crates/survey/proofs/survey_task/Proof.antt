@@ -1,4 +1,4 @@
--- `figures::survey::survey_task` meets its contract. The invariant: what the traces passed have.
+-- `survey::survey_task` meets its contract. The invariant: what the traces passed have.
 -- Assumes nothing.
 use Prim.Native.Nat.{_-_, _≤_}
 use mathlib.Core.Path.{_≡_}
@@ -9,9 +9,9 @@ use borrow.Author.Needs.{needs}
 use Rattle.board.specs.Layout.{traceCount}
 use Rattle.trace.specs.Starts.{At}
 use Rattle.trace.proofs.Starts.{at-next, at-task, at-starts}
-use Rattle.figures.proofs.Passed.{Passed, passed-none, passed-next, passed-all}
-use Rattle.figures.proofs.survey.survey_task.Statement.{statement}
-use Rattle.figures.proofs.survey.survey_task.Tie as tie
+use Rattle.survey.proofs.Passed.{Passed, passed-none, passed-next, passed-all}
+use Rattle.survey.proofs.survey_task.Statement.{statement}
+use Rattle.survey.proofs.survey_task.Tie as tie
 
 abbrev Inv : tie.InvT-loop
 Inv b i rows evicted row₀ marks₀ lives₀ count at₀ pd₀ md₀ ecb₀ r₀ row marks lives at pd md ecb r =

@@ -1,4 +1,4 @@
--- `figures::survey::survey_trace` meets its contract.
+-- `survey::survey_trace` meets its contract.
 -- Assumes nothing.
 use Prim.Native.Nat.{ℕ, max}
 use mathlib.Core.Bool.{_||_, false≢true}
@@ -15,10 +15,10 @@ use Rattle.board.specs.Layout.{core, traceLength}
 use Rattle.trace.specs.Traces.{Trace, traceOf, tracePD, traceMD, evicts, mostUseful}
 use Rattle.trace.specs.Places.{traceAt}
 use Rattle.useful.proofs.Points.{mostCommon-is}
 use Rattle.figures.specs.Overhead.{evictedBy}
 use Rattle.trace.proofs.Starts.{starts-lies, starts-trace}
-use Rattle.figures.proofs.survey.survey_trace.Statement.{statement}
-use Rattle.figures.proofs.survey.survey_trace.Tie as tie
+use Rattle.survey.proofs.survey_trace.Statement.{statement}
+use Rattle.survey.proofs.survey_trace.Tie as tie
 
 -- the length read, and the trace
 len-known : (c : tie.After-index)

@@ -1,0 +1,6 @@
+-- The laws of the walk over all tasks and their traces.
+pub mod Sets
+pub mod Evicted
+pub mod Rows
+pub mod Passed
+pub mod Held
