@@ -1,6 +1,6 @@
 -- What each call knows where no row refuses.
 -- Assumes nothing.
-use Prim.Native.Nat.{ℕ, _+_, _*_, _≤_, zero-le}
+use Prim.Native.Nat.{ℕ, _+_, _≤_, zero-le}
 use mathlib.Core.List.{List}
 use mathlib.Core.Path.{_≡_}
 use lib.Dec.{leb}
@@ -9,7 +9,7 @@ use borrow.Author.Tests.{leb-true}
 use Rattle.board.specs.Layout.{tasks, scratchWords}
 use Rattle.board.specs.Sound.{Between}
 use Rattle.ranges.specs.Ranges.{within}
-use Rattle.refusals.specs.Refusals.{refuseUnless, refuseFirst, _orElse_, refusalOf}
+use Rattle.refusals.specs.Refusals.{refuseUnless, _orElse_, refusalOf}
 use Rattle.refusals.specs.declared.Verdict.the-variants.{Passed}
 use Rattle.refusals.proofs.Verdicts.{orElse-passed, refuseUnless-passed}
 use Rattle.refusals.proofs.Sound.{sound, within-true, refuseFirst-passed}

@@ -8,7 +8,7 @@ use native.Mathlib.Nat.{le-refl, le-trans, eq-or-lt-of-le, le-of-suc-le-suc, not
 use native.Mathlib.Numerals.{add-one}
 use native.Mathlib.Omega.{arith}
 use Rattle.folds.specs.Folds.{when, sumTo, sumWhere, maxTo, countTo, anyTo}
-use Rattle.folds.proofs.Numbers.{below-suc, when-mono, when-bound}
+use Rattle.folds.proofs.Numbers.{below-suc, when-bound}
 
 -- ---- `sumTo`
 

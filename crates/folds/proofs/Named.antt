@@ -1,6 +1,6 @@
 -- A list of n different numbers below n has each of them: the numbers are counted by their values, where none counts twice.
 -- Assumes nothing.
-use Prim.Native.Nat.{ℕ, zero, suc, _+_, _*_, _≤_, _<_, zero-le}
+use Prim.Native.Nat.{ℕ, zero, suc, _+_, _≤_, _<_}
 use mathlib.Core.Bool.{Bool, true, false}
 use mathlib.Core.Logic.{⊎-elim}
 use mathlib.Core.Path.{_≡_, refl, sym, ap, _∙_}
@@ -9,8 +9,7 @@ use native.Mathlib.Omega.{arith}
 use lib.Dec.{eqb}
 use borrow.Author.Tests.{eqb-true, eq-eqb}
 use Rattle.folds.specs.Folds.{when, sumTo, countTo}
-use Rattle.folds.proofs.Numbers.{below-suc}
-use Rattle.folds.proofs.Folds.{sumTo-none, sumTo-next, sumTo-cong, sumTo-zero, sumTo-bound, sumTo-below, sumTo-tight, sumTo-swap, sumTo-least, none-or-some, countTo-none, countTo-next, countTo-zero}
+use Rattle.folds.proofs.Folds.{sumTo-bound, sumTo-below, sumTo-tight, sumTo-swap, sumTo-least, none-or-some, countTo-none, countTo-next, countTo-zero}
 
 module _ (f : ℕ → ℕ) (n : ℕ) (within : (k : ℕ) → k < n → f k < n) (differ : (j k : ℕ) → j < k → k < n → f j ≡ f k → ⊥) where
   -- the places of the value i

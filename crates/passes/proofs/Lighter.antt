@@ -6,7 +6,6 @@ use mathlib.Core.Logic.{⊎-elim}
 use Prim.Native.Nat.{ℕ, _≤_, _<_}
 use native.Mathlib.Nat.{le-refl}
 use native.Mathlib.Omega.{arith}
-use lib.ListN.{getD}
 use Rattle.folds.proofs.Numbers.{le-or-lt}
 use Rattle.passes.specs.Passes.{System, pass, settled, firstLate, Below, Lighter}
 use Rattle.passes.proofs.Ascending.{Closed, Ascending, getD-pass}

@@ -1,8 +1,7 @@
 // The first late task, and the settled times for the caller.
 ghost use mathlib.Core.Path.{_≡_};
 ghost use Prim.Native.Nat.{_≤_};
-ghost use lib.ListN.{length, getD};
-ghost use Rattle.folds.specs.Folds.{fillTo};
+ghost use lib.ListN.{length};
 ghost use Rattle.board.specs.Layout.{tasks};
 ghost use Rattle.board.specs.Sound.{Sound};
 ghost use Rattle.passes.specs.Passes.{firstLate};

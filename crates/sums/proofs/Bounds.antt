@@ -17,7 +17,7 @@ use Rattle.board.specs.Sound.{Sound}
 use Rattle.figures.specs.Figures.{taskPD}
 use Rattle.figures.proofs.Overhead.{γ-bound}
 use Rattle.figures.proofs.Bounds.{taskPD-bound, taskMD-bound}
-use Rattle.sums.specs.Sums.{lowest, bound, releases, memoryDemand, overCores, window, ownAccesses, carryIn, coreAccesses, interference, busAccesses, refreshes, higherWork, taskSum}
+use Rattle.sums.specs.Sums.{lowest, memoryDemand, overCores, window, ownAccesses, carryIn, coreAccesses, interference, busAccesses, refreshes, higherWork, taskSum}
 use Rattle.sums.specs.Limits.{mostCores, mostSlots, longestAccess, latestTime, mostWork, mostDemand, mostReleases, longestWindow, mostCarryIn, mostOwnAccesses, mostHigherWork, mostAccesses, mostInterference, mostBusAccesses}
 use Rattle.sums.specs.Inputs.{Times, releaseCost}
 use Rattle.sums.proofs.Rising.{carry-mono}

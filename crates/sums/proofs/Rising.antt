@@ -17,7 +17,7 @@ use borrow.Author.Tests.{ltb-true, eqb-true, eqb-false, not-true}
 use Rattle.folds.specs.Folds.{ceilDiv, sumTo}
 use Rattle.folds.proofs.Numbers.{Shorter, shorter-same, div-rise, ceilDiv-rise, ceilDiv-mono}
 use Rattle.folds.proofs.Folds.{sumWhere-rise}
-use Rattle.board.specs.Layout.{word, cores, tasks, bus, slotsEach, slots, accessCycles, refresh, refreshInterval, refreshRows, refreshCycles, core, period}
+use Rattle.board.specs.Layout.{word, cores, tasks, bus, slots, accessCycles, refresh, refreshInterval, refreshRows, refreshCycles, core, period}
 use Rattle.folds.proofs.Numbers.{and-both}
 use Rattle.figures.specs.Figures.{taskPD}
 use Rattle.sums.specs.Sums.{lowest, memoryDemand, overCores, window, ownAccesses, carryIn, coreAccesses, lowerAccesses, interference, busAccesses, refreshes, higherWork, taskSum}

@@ -5,7 +5,6 @@ use native.Mathlib.Nat.{lt-of-le-of-lt, le-of-eq}
 use native.Mathlib.Omega.{arith}
 use borrow.Author.Needs.{needs}
 use Rattle.sums.proofs.Bounds.{taskSum-bound}
-use Rattle.interference.specs.declared.SumParts.{SumParts}
 use Rattle.interference.proofs.Parts.{taskSum-parts}
 use Rattle.interference.proofs.task_sum.Statement.{statement}
 use Rattle.interference.proofs.task_sum.Tie as tie

@@ -4,8 +4,6 @@ use Prim.Native.Nat.{ℕ}
 use mathlib.Core.Path.{_≡_, refl, sym, _∙_}
 use native.Mathlib.Omega.{arith}
 use borrow.Author.Needs.{needs}
-use Rattle.refusals.specs.Refusals.{refusalOf}
-use Rattle.refusals.specs.declared.Verdict.the-variants.{Passed, Refused}
 use Rattle.refusals.proofs.Sound.{sound}
 use Rattle.checks.proofs.rows.board_rows.Statement.{statement}
 use Rattle.checks.proofs.rows.board_rows.Tie as tie
