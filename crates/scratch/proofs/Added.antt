@@ -8,11 +8,8 @@ use native.Mathlib.Omega.{arith}
 use lib.ListN.{getD}
 use Rattle.folds.proofs.Numbers.{below-suc}
 use Rattle.folds.specs.Stored.{Stored}
+use Rattle.figures.proofs.Rows.{row-within}
 use Rattle.scratch.specs.Scratch.{RowAddable, withMD, Addable, Added}
-
--- row i of n ends where n rows do, or before
-pub row-ends : {i n : ℕ} → i < n → i * n + n ≤ n * n
-row-ends {i} {n} row = omega (arith, suc-mul i n, mul-le-mul-right n row)
 
 pub added-none : {n : ℕ} {w : List ℕ} → Added n 0 w w
 added-none = record { size = refl; rows = λ i k row column. absurd (omega arith); before = λ p h. refl; after = λ p h. refl }
@@ -30,7 +27,7 @@ module _ {n i at : ℕ} {w w₁ : List ℕ} (able : Addable n w) (so-far : Added
       record {
         few = able .few;
         behind = omega arith;
-        words = omega (arith, row-ends row, able .words, so-far .size);
+        words = omega (arith, row-within n n i row, able .words, so-far .size);
         fits = λ k column. omega (arith, same k column, moved k, able .fits i k row column);
       }
 

@@ -107,7 +107,7 @@ module _ {b : List ℕ} {n : ℕ} {w : List ℕ} (ready : Prepared b n w) where
         rows = λ i k row column. stored .after (4 * n + (i * n + k)) (omega arith) ∙ ready .rows i k row column;
       }
 
-  row-holds : (i a : ℕ) → i < n → a ≡ 4 * n + i * n → a + n ≤ 4 * n + n * n → Holds (at.tasks b) (memoryDemand b i) (take (a + n - a) (drop a w))
+  row-holds : (i a : ℕ) → i < n → a ≡ 4 * n + i * n → a + n ≤ at.scratchWords n → Holds (at.tasks b) (memoryDemand b i) (take (a + n - a) (drop a w))
   row-holds i a task e within =
       holds-part (memoryDemand b i) (at.tasks b) a (a + n) w (omega (arith, ready .room .tasks)) (omega (arith, ready .room .words))
       (λ k h.
@@ -115,8 +115,8 @@ module _ {b : List ℕ} {n : ℕ} {w : List ℕ} (ready : Prepared b n w) where
       ap (λ (p : ℕ). getD w p 0) place ∙ ready .rows i k task (tasks-in k h))
 
   -- what a sum takes: the PD, row i and the last row
-  pub sum-input : {R : List ℕ} {i own all : ℕ} → Times b R → i < n → (own ≡ 4 * n + i * n) × (own + n ≤ 4 * n + n * n)
-      → (all ≡ 4 * n + (n - 1) * n) × (all + n ≤ 4 * n + n * n)
+  pub sum-input : {R : List ℕ} {i own all : ℕ} → Times b R → i < n → (own ≡ 4 * n + i * n) × (own + n ≤ at.scratchWords n) × (own + n ≤ at.mostScratch)
+      → (all ≡ 4 * n + (n - 1) * n) × (all + n ≤ at.scratchWords n) × (all + n ≤ at.mostScratch)
       → SumInput b (take (3 * n - 2 * n) (drop (2 * n) w)) (take (own + n - own) (drop own w)) (take (all + n - all) (drop all w)) R i
   sum-input {R} {i} {own} {all} times task row last =
       let words : at.scratchWords n ≤ length w = ready .room .words in

@@ -1,10 +1,10 @@
 // The word scratch: the figures of every task, laid out for the passes, and a task's sum from them.
+use figures::row::place;
 ghost use mathlib.Core.Path.{_≡_};
-ghost use Prim.Native.Nat.{_+_, _*_, _<_, _≤_};
+ghost use Prim.Native.Nat.{_<_};
 ghost use lib.ListN.{length};
 ghost use Rattle.figures.specs.Survey.{Held};
 ghost use Rattle.sums.specs.Sums.{taskSum};
-ghost use Rattle.board.specs.Layout.{mostTasks};
 ghost use Rattle.sums.specs.Inputs.{Times};
 ghost use Rattle.folds.specs.Stored.{Stored};
 ghost use Rattle.scratch.specs.Scratch.{Room, RowAddable, withMD, Addable, Added, Prepared};
@@ -47,21 +47,13 @@ pub fn prepare(board: &[u32], n: usize, scratch: &mut [u32], sets: &mut [u64; 25
     add_md(n, scratch);
 }
 
-// Where row i starts.
-fn row_at(n: usize, i: usize) -> usize
-    requires { ⌜ (n ≤ mostTasks) × (i < n) ⌝ }
-    ensures { λ r. ⌜ (r ≡ 4 * n + i * n) × (r + n ≤ 4 * n + n * n) ⌝ }
-{
-    4 * n + i * n
-}
-
 // The sum of task i at the times, from a prepared scratch.
 pub fn sum_of(board: &[u32], n: usize, scratch: &[u32], times: &[u32], i: usize) -> u64
     requires { ⌜ (Prepared (now board) n (now scratch)) × (Times (now board) (now times)) × (i < n) ⌝ }
     ensures { λ r. ⌜ r ≡ taskSum (now (board .entry)) (now (times .entry)) i ⌝ }
 {
-    let own = row_at(n, i);
-    let all = row_at(n, n - 1);
+    let own = place(n, i);
+    let all = place(n, n - 1);
     interference::task_sum(
         board,
         &scratch[2 * n..3 * n],

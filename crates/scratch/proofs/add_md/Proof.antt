@@ -8,7 +8,8 @@ use denote.Ref.{now}
 use borrow.Author.Needs.{needs}
 use Rattle.board.proofs.Extents.{square-fits}
 use Rattle.scratch.specs.Scratch.{Added}
-use Rattle.scratch.proofs.Added.{row-ends, added-none, row-addable, added-next}
+use Rattle.figures.proofs.Rows.{row-within}
+use Rattle.scratch.proofs.Added.{added-none, row-addable, added-next}
 use Rattle.scratch.proofs.add_md.Statement.{statement}
 use Rattle.scratch.proofs.add_md.Tie as tie
 
@@ -31,7 +32,7 @@ add-md-spec =
     let at = c .before .before .before .before .before in
     let start = at .before .before in
     let row : at .loop .i < start .args .n = omega arith in
-    omega (arith, at .loop .inv .1, row-ends row, square-fits (start .pre .few)))
+    omega (arith, at .loop .inv .1, row-within (start .args .n) (start .args .n) (at .loop .i) row, square-fits (start .pre .few)))
     (λ c. search needs)
     (λ c. search needs)
     (λ c.

@@ -30,5 +30,5 @@ sum-of-spec =
     (λ c. search needs)
     (λ c κs.
     let start = c .before .before .before .before .before .before .before .before in
-    sum-input (start .pre .0) (start .pre .1) (start .pre .2) (c .before .before .before .before .row-at .ensures) (c .before .before .before .row-at2 .ensures))
+    sum-input (start .pre .0) (start .pre .1) (start .pre .2) (c .before .before .before .before .place .ensures) (c .before .before .before .place2 .ensures))
     (λ c. search needs))
