@@ -37,6 +37,7 @@ module _ {S : System} {step : List ℕ → List ℕ} (up : Ascending S step) whe
         spent = (λ _. over, λ _. refl);
         late = λ h. absurd (omega arith);
         names = λ task passes e. let z : _≡_ {A = ℕ} 0 1 = cc in absurd (omega arith);
+        gives = λ passes e. let z : _≡_ {A = ℕ} 0 1 = cc in absurd (omega arith);
         settles = λ h C choice. absurd (omega arith);
       }
 
@@ -47,6 +48,7 @@ module _ {S : System} {step : List ℕ → List ℕ} (up : Ascending S step) whe
         spent = (λ e. let z : _≡_ {A = ℕ} 0 1 = cc in absurd (omega arith), λ l. absurd (omega arith));
         late = λ _. (λ _. firstLate-no-choice up h, λ _. (firstLate S (settledBy S step) + 1, passesBy S step, refl));
         names = λ task passes e. ((firstLate S (settledBy S step), smallest, cc), cc);
+        gives = λ passes e. let z : _≡_ {A = ℕ} 0 1 = cc in absurd (omega arith);
         settles = λ _ C choice. absurd (firstLate-no-choice up h C choice);
       }
     where
@@ -60,6 +62,7 @@ module _ {S : System} {step : List ℕ → List ℕ} (up : Ascending S step) whe
         spent = (λ e. let z : _≡_ {A = ℕ} 0 1 = cc in absurd (omega arith), λ l. absurd (omega arith));
         late = λ _. (λ named. let e = named .2 in let z : _≡_ {A = ℕ} 0 1 = cc in absurd (omega arith), λ none. absurd (none (settledBy S step) (firstLate-none up h .choice)));
         names = λ task passes e. let z : _≡_ {A = ℕ} 0 1 = cc in absurd (omega arith);
+        gives = λ passes e. (cc, rw holds (firstLate-none up h));
         settles = λ _ C choice. (refl, rw holds (firstLate-none up h));
       }
 
