@@ -5,7 +5,7 @@ use board::MOST_TASKS;
 use refusals::Verdict;
 ghost use mathlib.Core.Path.{_≡_};
 ghost use lib.ListN.{length};
-ghost use Rattle.board.specs.Layout.{passLimit};
+ghost use Rattle.board.specs.Layout.{mostTasks, passLimit};
 ghost use Rattle.refusals.specs.declared.Verdict.the-variants.{Passed};
 ghost use Rattle.answers.specs.Refusals.{figuresRefusal, analyseRefusal};
 ghost use Rattle.answers.specs.Answers.{system, figuresAnswer, overheadAnswer, weighAnswer, analyseAnswer, timesAfter, tableAfter, ScratchAfter};
@@ -47,12 +47,15 @@ pub fn analyse(
     answer
 }
 
-// `analyse` for callers that want no figures: as with a table of 64 records.
+// `analyse` for callers that want no figures, as the program: it answers as with a table of 64 records, and meets demand 3 as `analyse` does.
 pub fn analyse_alone(board: &[u32], times: &mut [u32], scratch: &mut [u32]) -> Answer
-    ensures answer { λ r. ⌜ r ≡ analyseAnswer (now (board .entry)) (length (now (times .entry))) (length (now (scratch .entry))) 64 ⌝ }
+    ensures answer { λ r. ⌜ r ≡ analyseAnswer (now (board .entry)) (length (now (times .entry))) (length (now (scratch .entry))) mostTasks ⌝ }
     ensures times { λ r. ⌜ now (times .exit) ≡ timesAfter (now (board .entry)) r (now (times .entry)) ⌝ }
-    ensures scratch { λ _. ⌜ ScratchAfter (analyseRefusal (now (board .entry)) (length (now (times .entry))) (length (now (scratch .entry))) 64)
+    ensures scratch { λ _. ⌜ ScratchAfter
+        (analyseRefusal (now (board .entry)) (length (now (times .entry))) (length (now (scratch .entry))) mostTasks)
         (now (scratch .entry)) (now (scratch .exit)) ⌝ }
+    ensures demand3 { λ r. ⌜ (analyseRefusal (now (board .entry)) (length (now (times .entry))) (length (now (scratch .entry))) mostTasks ≡ Passed
+        → Demand3 (system (now (board .entry))) (passLimit (now (board .entry))) r (now (times .exit))) ⌝ }
 {
     let mut n: usize = 0;
     let mut words = [0u32; 256];
