@@ -39,9 +39,9 @@ int main(int argc, char **argv)
     size_t words = read_board(file);
     fclose(file);
 
-    uint64_t numbers[2];
+    uint64_t answer[2];
     uint32_t code = zuzgravel_analyse(board, words, times, TASKS, scratch, ZUZGRAVEL_SCRATCH_WORDS(TASKS), records,
-                                      TASKS * ZUZGRAVEL_RECORD_WORDS, numbers, 2);
+                                      TASKS * ZUZGRAVEL_RECORD_WORDS, answer);
     switch (code) {
     case ZUZGRAVEL_VALUE:
         for (uint32_t k = 0; k < board[1]; k++) {
@@ -50,13 +50,13 @@ int main(int argc, char **argv)
         }
         return 0;
     case ZUZGRAVEL_LATE:
-        printf("task %llu is late\n", (unsigned long long)numbers[0]);
+        printf("task %llu is late\n", (unsigned long long)answer[0]);
         return 1;
     case ZUZGRAVEL_SPENT:
         printf("the pass limit is spent\n");
         return 1;
     default:
-        printf("the board is refused: row %llu, place %llu\n", (unsigned long long)numbers[0], (unsigned long long)numbers[1]);
+        printf("the board is refused: row %llu, place %llu\n", (unsigned long long)answer[0], (unsigned long long)answer[1]);
         return 1;
     }
 }

@@ -2,16 +2,18 @@
  * Zuzgravel: longest response times of the tasks of a multicore controller.
  *
  * The four calls of the proved library (`rt staticlib capi` writes target/staticlib/libcapi.a). Each call takes every input: it
- * tests what it is given and refuses with the number and the place of the refusal table (README.md). A refused call writes to
- * no buffer but `numbers`. No call keeps a pointer, allocates, or fails to return.
+ * tests what it is given and refuses with the number and the place of the refusal table (README.md). No call keeps a pointer,
+ * allocates, or fails to return.
  *
  * A board is a slice of 32-bit words, as README.md describes it. A buffer is a pointer and a length in words; a pointer must be
- * valid for that many words, aligned and not null, even where the length is 0, and no written buffer may overlap another.
+ * valid for that many words, aligned and not null, even where the length is 0, and no written buffer may overlap another. The same
+ * goes for `answer`, which has two words.
  *
- * A call returns a code, and puts its two numbers into the first two words of `numbers` (as many of them as there is room for; a number
- * that is not named below is 0):
+ * An answer is a code and two numbers. A C function gives back one number, so the code is what a call returns, and `answer` is where
+ * the two numbers go: two words of the caller's. Every call writes both of them, a refused one too (a number that is not named below
+ * is 0); a refused call writes to no other buffer.
  *
- *   code                    numbers[0]                       numbers[1]
+ *   code                    answer[0]                        answer[1]
  *   ZUZGRAVEL_VALUE    0    the value; of analyse: passes
  *   ZUZGRAVEL_LATE     1    the late task, from 1            passes
  *   ZUZGRAVEL_SPENT    2
@@ -46,21 +48,20 @@ extern "C" {
  * The value is n. Refuses with rows 1 to 9, and 13 where `records` has room for fewer than n records (the place is that room).
  */
 uint32_t zuzgravel_figures(const uint32_t *board, size_t board_words, uint32_t *records, size_t record_words,
-                           uint64_t *numbers, size_t numbers_words);
+                           uint64_t answer[2]);
 
 /*
  * Overhead: the value is the pre-emption overhead of task j on the tasks down to task i, both numbered from 1.
  * Refuses with rows 1 to 9, and 10 for i, then j.
  */
-uint32_t zuzgravel_overhead(const uint32_t *board, size_t board_words, size_t i, size_t j, uint64_t *numbers,
-                            size_t numbers_words);
+uint32_t zuzgravel_overhead(const uint32_t *board, size_t board_words, size_t i, size_t j, uint64_t answer[2]);
 
 /*
  * Weigh: the value is the sum of task i, numbered from 1, at these times.
  * Refuses with rows 1 to 9, 10 for i, 11 where there are fewer than n times, and 14 at the first time above its deadline + 1.
  */
 uint32_t zuzgravel_weigh(const uint32_t *board, size_t board_words, const uint32_t *times, size_t times_words, size_t i,
-                         uint64_t *numbers, size_t numbers_words);
+                         uint64_t answer[2]);
 
 /*
  * Analyse: ZUZGRAVEL_VALUE puts the longest response time of each task into the first n words of `times`; later words stay as they
@@ -69,8 +70,7 @@ uint32_t zuzgravel_weigh(const uint32_t *board, size_t board_words, const uint32
  * Refuses with rows 1 to 9, 11 (times), 12 (scratch) and 13 (records), each with the length found as its place.
  */
 uint32_t zuzgravel_analyse(const uint32_t *board, size_t board_words, uint32_t *times, size_t times_words, uint32_t *scratch,
-                           size_t scratch_words, uint32_t *records, size_t record_words, uint64_t *numbers,
-                           size_t numbers_words);
+                           size_t scratch_words, uint32_t *records, size_t record_words, uint64_t answer[2]);
 
 #ifdef __cplusplus
 }

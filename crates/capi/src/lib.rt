@@ -1,5 +1,5 @@
 // The four calls for C and Rust, on numbers and word slices; include/zuzgravel.h declares them. Each takes every input, returns a code, and
-// puts its two numbers into the first two words of `numbers`, as far as there is room.
+// puts the two numbers of its answer into the two words of `answer`, also where it refuses. In C the array is one pointer, with no length.
 use replies::reply::of_answer;
 use replies::reply::of_outcome;
 use replies::table::RECORD_WORDS;
@@ -7,21 +7,23 @@ use replies::table::fill;
 ghost use mathlib.Core.Path.{_≡_};
 ghost use Prim.Native.Nat.{_/_};
 ghost use lib.ListN.{length};
-ghost use Rattle.folds.specs.Folds.{fillTo};
 ghost use Rattle.board.specs.Layout.{passLimit};
 ghost use Rattle.refusals.specs.declared.Verdict.the-variants.{Passed};
 ghost use Rattle.answers.specs.Refusals.{figuresRefusal, analyseRefusal};
 ghost use Rattle.answers.specs.Answers.{system, figuresAnswer, overheadAnswer, weighAnswer, analyseAnswer, timesAfter, ScratchAfter};
 ghost use Rattle.calls.specs.Demand.{Demand3};
-ghost use Rattle.replies.specs.Replies.{outcomeCode, outcomeNumber, answerCode, answerNumber};
+ghost use Rattle.replies.specs.Replies.{outcomeCode, outcomeWords, answerCode, answerWords};
 ghost use Rattle.replies.specs.Records.{recordsAfter};
 
 // Figures: the records of the tasks as words, 13 a record; the value is their number.
 #[no_mangle]
-pub extern "C" fn zuzgravel_figures(board: &[u32], records: &mut [u32], numbers: &mut [u64]) -> u32
+pub extern "C" fn zuzgravel_figures(
+    board: &[u32],
+    records: &mut [u32],
+    answer: &mut [u64; 2],
+) -> u32
     ensures code { λ r. ⌜ r ≡ outcomeCode (figuresAnswer (now (board .entry)) (length (now (records .entry)) / 13)) ⌝ }
-    ensures numbers { λ _. ⌜ now (numbers .exit) ≡ fillTo
-        (outcomeNumber (figuresAnswer (now (board .entry)) (length (now (records .entry)) / 13))) 2 (now (numbers .entry)) ⌝ }
+    ensures answer { λ _. ⌜ now (answer .exit) ≡ outcomeWords (figuresAnswer (now (board .entry)) (length (now (records .entry)) / 13)) ⌝ }
     ensures records { λ _. ⌜ now (records .exit) ≡ recordsAfter (now (board .entry))
         (figuresRefusal (now (board .entry)) (length (now (records .entry)) / 13)) (now (records .entry)) ⌝ }
 {
@@ -36,16 +38,21 @@ pub extern "C" fn zuzgravel_figures(board: &[u32], records: &mut [u32], numbers:
         &mut sets,
     );
     fill(board, n, &words, &sets, records);
-    of_outcome(outcome, numbers)
+    of_outcome(outcome, answer)
 }
 
 // Overhead: the value is γ(i, j); tasks are their numbers from 1.
 #[no_mangle]
-pub extern "C" fn zuzgravel_overhead(board: &[u32], i: usize, j: usize, numbers: &mut [u64]) -> u32
+pub extern "C" fn zuzgravel_overhead(
+    board: &[u32],
+    i: usize,
+    j: usize,
+    answer: &mut [u64; 2],
+) -> u32
     ensures code { λ r. ⌜ r ≡ outcomeCode (overheadAnswer (now (board .entry)) i j) ⌝ }
-    ensures numbers { λ _. ⌜ now (numbers .exit) ≡ fillTo (outcomeNumber (overheadAnswer (now (board .entry)) i j)) 2 (now (numbers .entry)) ⌝ }
+    ensures answer { λ _. ⌜ now (answer .exit) ≡ outcomeWords (overheadAnswer (now (board .entry)) i j) ⌝ }
 {
-    of_outcome(calls::overhead(board, i, j), numbers)
+    of_outcome(calls::overhead(board, i, j), answer)
 }
 
 // Weigh: the value is the sum of task i, a number from 1, at these times.
@@ -54,13 +61,12 @@ pub extern "C" fn zuzgravel_weigh(
     board: &[u32],
     times: &[u32],
     i: usize,
-    numbers: &mut [u64],
+    answer: &mut [u64; 2],
 ) -> u32
     ensures code { λ r. ⌜ r ≡ outcomeCode (weighAnswer (now (board .entry)) (now (times .entry)) i) ⌝ }
-    ensures numbers { λ _. ⌜ now (numbers .exit) ≡ fillTo
-        (outcomeNumber (weighAnswer (now (board .entry)) (now (times .entry)) i)) 2 (now (numbers .entry)) ⌝ }
+    ensures answer { λ _. ⌜ now (answer .exit) ≡ outcomeWords (weighAnswer (now (board .entry)) (now (times .entry)) i) ⌝ }
 {
-    of_outcome(calls::weigh(board, times, i), numbers)
+    of_outcome(calls::weigh(board, times, i), answer)
 }
 
 // Analyse: the settled times into `times` where they are the answer, and the records as `zuzgravel_figures` writes them unless refused.
@@ -70,13 +76,12 @@ pub extern "C" fn zuzgravel_analyse(
     times: &mut [u32],
     scratch: &mut [u32],
     records: &mut [u32],
-    numbers: &mut [u64],
+    answer: &mut [u64; 2],
 ) -> u32
     ensures code { λ r. ⌜ r ≡ answerCode
         (analyseAnswer (now (board .entry)) (length (now (times .entry))) (length (now (scratch .entry))) (length (now (records .entry)) / 13)) ⌝ }
-    ensures numbers { λ _. ⌜ now (numbers .exit) ≡ fillTo
-        (answerNumber (analyseAnswer (now (board .entry)) (length (now (times .entry))) (length (now (scratch .entry))) (length (now (records .entry)) / 13)))
-        2 (now (numbers .entry)) ⌝ }
+    ensures answer { λ _. ⌜ now (answer .exit) ≡ answerWords
+        (analyseAnswer (now (board .entry)) (length (now (times .entry))) (length (now (scratch .entry))) (length (now (records .entry)) / 13)) ⌝ }
     ensures times { λ _. ⌜ now (times .exit) ≡ timesAfter (now (board .entry))
         (analyseAnswer (now (board .entry)) (length (now (times .entry))) (length (now (scratch .entry))) (length (now (records .entry)) / 13))
         (now (times .entry)) ⌝ }
@@ -96,7 +101,7 @@ pub extern "C" fn zuzgravel_analyse(
     let mut words = [0u32; 256];
     let mut sets = [0u64; 256];
     let room = records.len() / RECORD_WORDS;
-    let answer = call_work::analyse(board, times, scratch, room, &mut n, &mut words, &mut sets);
+    let found = call_work::analyse(board, times, scratch, room, &mut n, &mut words, &mut sets);
     fill(board, n, &words, &sets, records);
-    of_answer(answer, numbers)
+    of_answer(found, answer)
 }

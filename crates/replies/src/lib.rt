@@ -1,3 +1,3 @@
-// What the calls for C and Rust hand back as words: a code and two numbers for an answer, and the records of the figures table.
+// What the calls for C and Rust hand back as words: a code and two words for an answer, and the records of the figures table.
 pub mod reply;
 pub mod table;

@@ -1,47 +1,36 @@
-// The answers of the calls as a code and two numbers.
+// The answers of the calls as a code and two words.
 use answers::Answer;
 use answers::Outcome;
+ghost use mathlib.Core.List.{[], _∷_};
 ghost use mathlib.Core.Path.{_≡_};
-ghost use lib.ListN.{set};
-ghost use Rattle.folds.specs.Folds.{fillTo};
-ghost use Rattle.replies.specs.Replies.{two, outcomeCode, outcomeNumber, answerCode, answerNumber};
+ghost use Rattle.replies.specs.Replies.{outcomeCode, outcomeWords, answerCode, answerWords};
 
-// The code of an outcome, its numbers being put into the buffer.
-pub fn of_outcome(outcome: Outcome, numbers: &mut [u64]) -> u32
-    ensures { λ r. ⌜ (r ≡ outcomeCode outcome) × (now (numbers .exit) ≡ fillTo (outcomeNumber outcome) 2 (now (numbers .entry))) ⌝ }
+// The code of an outcome, its numbers being put into the words.
+pub fn of_outcome(outcome: Outcome, words: &mut [u64; 2]) -> u32
+    ensures { λ r. ⌜ (r ≡ outcomeCode outcome) × (now (words .exit) ≡ outcomeWords outcome) ⌝ }
 {
     match outcome {
-        Outcome::Value(value) => give(0, value, 0, numbers),
-        Outcome::Refused(number, place) => give(3, number as u64, place as u64, numbers),
+        Outcome::Value(value) => give(0, value, 0, words),
+        Outcome::Refused(number, place) => give(3, number as u64, place as u64, words),
     }
 }
 
-// The code of an answer, its numbers being put into the buffer.
-pub fn of_answer(answer: Answer, numbers: &mut [u64]) -> u32
-    ensures { λ r. ⌜ (r ≡ answerCode answer) × (now (numbers .exit) ≡ fillTo (answerNumber answer) 2 (now (numbers .entry))) ⌝ }
+// The code of an answer, its numbers being put into the words.
+pub fn of_answer(answer: Answer, words: &mut [u64; 2]) -> u32
+    ensures { λ r. ⌜ (r ≡ answerCode answer) × (now (words .exit) ≡ answerWords answer) ⌝ }
 {
     match answer {
-        Answer::Times(passes) => give(0, passes as u64, 0, numbers),
-        Answer::Late(task, passes) => give(1, task as u64, passes as u64, numbers),
-        Answer::Spent => give(2, 0, 0, numbers),
-        Answer::Refused(number, place) => give(3, number as u64, place as u64, numbers),
+        Answer::Times(passes) => give(0, passes as u64, 0, words),
+        Answer::Late(task, passes) => give(1, task as u64, passes as u64, words),
+        Answer::Spent => give(2, 0, 0, words),
+        Answer::Refused(number, place) => give(3, number as u64, place as u64, words),
     }
 }
 
-// The code, with the two numbers in the buffer.
-fn give(code: u32, first: u64, second: u64, numbers: &mut [u64]) -> u32
-    ensures { λ r. ⌜ (r ≡ code) × (now (numbers .exit) ≡ fillTo (two first second) 2 (now (numbers .entry))) ⌝ }
+// The code, with the two numbers in the words.
+fn give(code: u32, first: u64, second: u64, words: &mut [u64; 2]) -> u32
+    ensures { λ r. ⌜ (r ≡ code) × (now (words .exit) ≡ first ∷ second ∷ []) ⌝ }
 {
-    put(numbers, 0, first);
-    put(numbers, 1, second);
+    *words = [first, second];
     code
-}
-
-// The number as word k, where the buffer has one.
-fn put(numbers: &mut [u64], k: usize, number: u64)
-    ensures { λ _. ⌜ now (numbers .exit) ≡ set (now (numbers .entry)) k number ⌝ }
-{
-    if k < numbers.len() {
-        numbers[k] = number;
-    }
 }

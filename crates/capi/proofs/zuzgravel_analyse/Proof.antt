@@ -6,7 +6,7 @@ use native.Mathlib.Omega.{arith}
 use borrow.Author.Needs.{needs}
 use Rattle.answers.specs.Answers.{timesAfter}
 use Rattle.calls.proofs.Demand.{demand3-met}
-use Rattle.replies.specs.Replies.{answerCode, answerNumber}
+use Rattle.replies.specs.Replies.{answerCode, answerWords}
 use Rattle.replies.proofs.Replies.{replies-as}
 use Rattle.replies.proofs.Records.{filled-records}
 use Rattle.capi.proofs.zuzgravel_analyse.Statement.{statement}
@@ -14,13 +14,12 @@ use Rattle.capi.proofs.zuzgravel_analyse.Tie as tie
 
 returns : tie.Need-returns
 returns c =
-    let replied = c .before .before in
-    let filled = replied .before .before .before .before in
+    let filled = c .before .before .before .before in
     let d = filled .before .before .before .before .before .before .before .before .before in
-    let a = d .before .before .before .before .before .before .before .before .before .before .before .args in
+    let a = d .before .before .before .before .before .before .before .before .before .before .args in
     let counts = d .analyse .ensures .0 in
     let answer = d .analyse .ensures .1 in
-    let reply = replies-as answerCode answerNumber _ _ _ (answer .0) (replied .of-answer .ensures) in
+    let reply = replies-as answerCode answerWords _ _ (answer .0) (c .of-answer .ensures) in
     let times = answer .1 .0 ∙ ap (λ r. timesAfter (a .board .now) r (a .times .now)) (answer .0) in
     let records = filled-records _ _ _ (counts .0) (filled .fill .ensures) in
     (reply .0, (reply .1, (times, (records, (answer .1 .1, λ passed. demand3-met (a .board .now) (a .times .now) _ _ passed _ _ refl times)))))
@@ -34,7 +33,6 @@ zuzgravel-analyse-spec =
     (λ c. search needs)
     (λ c κs. let counts = c .before .before .before .before .before .before .before .before .analyse .ensures .0 in (counts .1 .0, omega (arith, counts .1 .1)))
     (λ c κs. search needs)
-    (λ c. search needs)
     (λ c. search needs)
     (λ c. search needs)
     (λ c. search needs)

@@ -2,7 +2,7 @@
 -- Assumes nothing.
 use native.Mathlib.Omega.{arith}
 use borrow.Author.Needs.{needs}
-use Rattle.replies.specs.Replies.{outcomeCode, outcomeNumber}
+use Rattle.replies.specs.Replies.{outcomeCode, outcomeWords}
 use Rattle.replies.proofs.Replies.{replies-as}
 use Rattle.replies.proofs.Records.{filled-records}
 use Rattle.capi.proofs.zuzgravel_figures.Statement.{statement}
@@ -18,10 +18,8 @@ zuzgravel-figures-spec =
     (λ c κs. let counts = c .before .before .before .before .figures .ensures .0 in (counts .1 .0, omega (arith, counts .1 .1)))
     (λ c κs. search needs)
     (λ c. search needs)
-    (λ c. search needs)
     (λ c.
-    let replied = c .before .before in
-    let filled = replied .before .before .before .before in
+    let filled = c .before .before .before .before in
     let d = filled .before .before .before .before .before in
-    let reply = replies-as outcomeCode outcomeNumber _ _ _ (d .figures .ensures .1) (replied .of-outcome .ensures) in
+    let reply = replies-as outcomeCode outcomeWords _ _ (d .figures .ensures .1) (c .of-outcome .ensures) in
     (reply .0, (reply .1, filled-records _ _ _ (d .figures .ensures .0 .0) (filled .fill .ensures)))))

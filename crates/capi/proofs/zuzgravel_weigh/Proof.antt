@@ -1,15 +1,13 @@
 -- `capi::zuzgravel_weigh` meets its contract: the reply is that of the outcome.
 -- Assumes nothing.
 use borrow.Author.Needs.{needs}
-use Rattle.replies.specs.Replies.{outcomeCode, outcomeNumber}
+use Rattle.replies.specs.Replies.{outcomeCode, outcomeWords}
 use Rattle.replies.proofs.Replies.{replies-as}
 use Rattle.capi.proofs.zuzgravel_weigh.Statement.{statement}
 use Rattle.capi.proofs.zuzgravel_weigh.Tie as tie
 
 returns : tie.Need-returns
-returns c =
-    let replied = c .before .before in
-    replies-as outcomeCode outcomeNumber _ _ _ (replied .before .before .weigh .ensures) (replied .of-outcome .ensures)
+returns c = replies-as outcomeCode outcomeWords _ _ (c .before .before .weigh .ensures) (c .of-outcome .ensures)
 
 pub zuzgravel-weigh-spec : {M : Type 1} → statement M
-zuzgravel-weigh-spec = tie.close (tie.spec (λ c κs. search needs) (λ c κs. search needs) (λ c. search needs) returns)
+zuzgravel-weigh-spec = tie.close (tie.spec (λ c κs. search needs) (λ c κs. search needs) returns)

@@ -54,21 +54,21 @@ impl Tally {
 }
 
 fn refused(e: Refusal) -> Reply {
-    Reply { code: REFUSED, numbers: [e.no as u64, e.place] }
+    Reply::new(REFUSED, [e.no as u64, e.place])
 }
 
 fn valued(v: Result<u64, Refusal>) -> Reply {
     match v {
-        Ok(x) => Reply { code: VALUE, numbers: [x, 0] },
+        Ok(x) => Reply::new(VALUE, [x, 0]),
         Err(e) => refused(e),
     }
 }
 
 fn answered(a: Answer) -> Reply {
     match a {
-        Answer::Times { passes } => Reply { code: VALUE, numbers: [passes, 0] },
-        Answer::Late { task, passes } => Reply { code: LATE, numbers: [task as u64, passes] },
-        Answer::Spent => Reply { code: SPENT, numbers: [0, 0] },
+        Answer::Times { passes } => Reply::new(VALUE, [passes, 0]),
+        Answer::Late { task, passes } => Reply::new(LATE, [task as u64, passes]),
+        Answer::Spent => Reply::new(SPENT, [0, 0]),
         Answer::Refused(e) => refused(e),
     }
 }
