@@ -18,6 +18,10 @@
  *   ZUZGRAVEL_LATE     1    the late task, from 1            passes
  *   ZUZGRAVEL_SPENT    2
  *   ZUZGRAVEL_REFUSED  3    the row of the refusal table     the place
+ *
+ * Stack that a call needs, on x86-64: 52 KiB for zuzgravel_figures and zuzgravel_analyse, 68 KiB for zuzgravel_overhead and
+ * zuzgravel_weigh. `harness/stack` measures it; some 3 KiB of each are for the dynamic linker, which may have to bind memset and memcpy,
+ * the only functions of C that are called.
  */
 #ifndef ZUZGRAVEL_H
 #define ZUZGRAVEL_H
@@ -45,7 +49,8 @@ extern "C" {
 
 /*
  * Figures: fills the first n records of `records` with the figures of the n tasks; later words stay as they were.
- * The value is n. Refuses with rows 1 to 9, and 13 where `records` has room for fewer than n records (the place is that room).
+ * The value is n. Refuses with rows 1 to 9, and 13 where `records` has room for fewer than n records; its place is that room in
+ * records, record_words / ZUZGRAVEL_RECORD_WORDS.
  */
 uint32_t zuzgravel_figures(const uint32_t *board, size_t board_words, uint32_t *records, size_t record_words,
                            uint64_t answer[2]);
@@ -67,7 +72,8 @@ uint32_t zuzgravel_weigh(const uint32_t *board, size_t board_words, const uint32
  * Analyse: ZUZGRAVEL_VALUE puts the longest response time of each task into the first n words of `times`; later words stay as they
  * were, and so does the whole of `times` with every other code. Unless refused, the first n records of `records` are filled as by
  * zuzgravel_figures, and `scratch` ends with free contents.
- * Refuses with rows 1 to 9, 11 (times), 12 (scratch) and 13 (records), each with the length found as its place.
+ * Refuses with rows 1 to 9, 11 (times) and 12 (scratch), whose places are the lengths found, in words, and 13 (records), whose place is
+ * the room in records, record_words / ZUZGRAVEL_RECORD_WORDS.
  */
 uint32_t zuzgravel_analyse(const uint32_t *board, size_t board_words, uint32_t *times, size_t times_words, uint32_t *scratch,
                            size_t scratch_words, uint32_t *records, size_t record_words, uint64_t answer[2]);
