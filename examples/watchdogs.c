@@ -3,26 +3,33 @@
  * Built from the repository's top: cc -Iinclude examples/watchdogs.c target/staticlib/libcapi.a -o watchdogs
  */
 #include <stdio.h>
-#include <string.h>
 
 #include "zuzgravel.h"
 
 #define TASKS 64u
+#define WORDS 16384u
 
-static uint32_t board[16385];
+static uint32_t board[WORDS];
 static uint32_t times[TASKS];
 static uint32_t scratch[ZUZGRAVEL_SCRATCH_WORDS(TASKS)];
 static uint32_t records[TASKS * ZUZGRAVEL_RECORD_WORDS];
 
-/* Reads little-endian words; returns their number, or one past the largest board where there are more. */
+/* Reads at most one byte more than the largest board has; returns their number. The words are little-endian. */
 static size_t read_board(FILE *file)
 {
-    size_t count = 0;
-    unsigned char bytes[4];
-    while (count < 16385 && fread(bytes, 1, 4, file) == 4) {
-        board[count++] = (uint32_t)bytes[0] | (uint32_t)bytes[1] << 8 | (uint32_t)bytes[2] << 16 | (uint32_t)bytes[3] << 24;
+    static unsigned char bytes[4 * WORDS + 1];
+    size_t count = fread(bytes, 1, sizeof bytes, file);
+    for (size_t k = 0; k < count / 4; k++) {
+        const unsigned char *at = &bytes[4 * k];
+        board[k] = (uint32_t)at[0] | (uint32_t)at[1] << 8 | (uint32_t)at[2] << 16 | (uint32_t)at[3] << 24;
     }
     return count;
+}
+
+static int refused(uint64_t row, uint64_t place)
+{
+    printf("the board is refused: row %llu, place %llu\n", (unsigned long long)row, (unsigned long long)place);
+    return 1;
 }
 
 int main(int argc, char **argv)
@@ -36,11 +43,15 @@ int main(int argc, char **argv)
         perror(argv[1]);
         return 2;
     }
-    size_t words = read_board(file);
+    size_t bytes = read_board(file);
     fclose(file);
+    /* row 15 of the refusal table is about bytes, so it is for whoever reads them */
+    if (bytes > 4 * WORDS || bytes % 4 != 0) {
+        return refused(15, bytes);
+    }
 
     uint64_t answer[2];
-    uint32_t code = zuzgravel_analyse(board, words, times, TASKS, scratch, ZUZGRAVEL_SCRATCH_WORDS(TASKS), records,
+    uint32_t code = zuzgravel_analyse(board, bytes / 4, times, TASKS, scratch, ZUZGRAVEL_SCRATCH_WORDS(TASKS), records,
                                       TASKS * ZUZGRAVEL_RECORD_WORDS, answer);
     switch (code) {
     case ZUZGRAVEL_VALUE:
@@ -56,7 +67,6 @@ int main(int argc, char **argv)
         printf("the pass limit is spent\n");
         return 1;
     default:
-        printf("the board is refused: row %llu, place %llu\n", (unsigned long long)answer[0], (unsigned long long)answer[1]);
-        return 1;
+        return refused(answer[0], answer[1]);
     }
 }
