@@ -1,5 +1,5 @@
 // Call 3: the sum of a task at given times, by `calls::weigh`.
-use answers::Outcome;
+use calls::Outcome;
 use calls::weigh;
 use folds::index;
 use libc::STDOUT_FILENO;

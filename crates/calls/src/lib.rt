@@ -1,7 +1,9 @@
-// The four public calls: figures, overhead, weigh and analyse.
-use answers::Answer;
-use answers::Outcome;
+// The four public calls: figures, overhead, weigh and analyse. The types of their answers and of the table are passed on, so that a caller
+// imports them from here.
+pub use answers::Answer;
+pub use answers::Outcome;
 use board::MOST_TASKS;
+pub use figures::Figure;
 use refusals::Verdict;
 ghost use mathlib.Core.Path.{_≡_};
 ghost use lib.ListN.{length};
@@ -16,7 +18,7 @@ pub fn analyse(
     board: &[u32],
     times: &mut [u32],
     scratch: &mut [u32],
-    table: &mut [figures::Figure],
+    table: &mut [Figure],
 ) -> Answer
     ensures answer { λ r. ⌜ r ≡ analyseAnswer
         (now (board .entry)) (length (now (times .entry))) (length (now (scratch .entry))) (length (now (table .entry))) ⌝ }
@@ -72,7 +74,7 @@ pub fn analyse_alone(board: &[u32], times: &mut [u32], scratch: &mut [u32]) -> A
 }
 
 // The figures of every task, one record a task; the later records are untouched. Answers the number of records filled.
-pub fn figures(board: &[u32], table: &mut [figures::Figure]) -> Outcome
+pub fn figures(board: &[u32], table: &mut [Figure]) -> Outcome
     ensures answer { λ r. ⌜ r ≡ figuresAnswer (now (board .entry)) (length (now (table .entry))) ⌝ }
     ensures table { λ _. ⌜ now (table .exit) ≡ tableAfter (now (board .entry))
         (figuresRefusal (now (board .entry)) (length (now (table .entry)))) (now (table .entry)) ⌝ }
