@@ -21,7 +21,6 @@ use Rattle.sums.specs.Sums.{lowest, memoryDemand, overCores, window, own
 use Rattle.sums.specs.Limits.{mostCores, mostSlots, longestAccess, latestTime, mostWork, mostDemand, mostReleases, longestWindow, mostCarryIn, mostOwnAccesses, mostHigherWork, mostAccesses, mostInterference, mostBusAccesses}
 use Rattle.sums.specs.Inputs.{Times, releaseCost}
 use Rattle.sums.proofs.Rising.{carry-mono}
-use Rattle.sums.proofs.Printed.{taskSum-printed}
 
 -- a sum of at most l terms
 pub where-bound : (n l m : ℕ) (test : ℕ → Bool) (f : ℕ → ℕ) → n ≤ l → ((k : ℕ) → k < n → f k ≤ m) → sumWhere test f n ≤ l * m
@@ -138,10 +137,10 @@ module _ (b R : List ℕ) (s : Sound b) (times : Times b R) where
     refreshes-bound (suc (suc c)) = omega (arith, busAccesses-bound)
 
     pub taskSum-bound : taskSum b R i < 2 ^ 64
+    unfolding taskSum
     taskSum-bound =
         omega (
           arith,
-          taskSum-printed b R i,
           work-bound b s i task,
           higherWork-bound,
           mul-le-mul {n₁ = busAccesses b R i} {m₁ = accessCycles b} {n₂ = mostBusAccesses} {m₂ = longestAccess} busAccesses-bound (s .access .1),

@@ -1,7 +1,7 @@
 -- The laws of a task's sum.
 pub mod Rising
 pub mod TimesRead
-pub mod Printed
+pub mod SixParts
 pub mod Numbers
 pub mod Windows
 pub mod Releases

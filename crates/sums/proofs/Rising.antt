@@ -250,9 +250,7 @@ module _ (b b' R R' : List ℕ) (heavier : Heavier b b') where
             arith,
             heavier .work i task,
             higherWork-rise,
-            mul-le-mul {n₁ = ownAccesses b R i} {m₁ = accessCycles b} {n₂ = ownAccesses b' R' i} {m₂ = accessCycles b'} ownAccesses-rise (le-of-eq same-access),
-            mul-le-mul {n₁ = interference b R i (bus b)} {m₁ = accessCycles b} {n₂ = interference b' R' i (bus b')} {m₂ = accessCycles b'} byBus-rise (le-of-eq same-access),
-            same-access,
+            mul-le-mul {n₁ = busAccesses b R i} {m₁ = accessCycles b} {n₂ = busAccesses b' R' i} {m₂ = accessCycles b'} busAccesses-rise (le-of-eq same-access),
             refreshPart-rise,
           )
 
