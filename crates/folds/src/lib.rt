@@ -2,7 +2,7 @@
 pub mod words;
 
 ghost use mathlib.Core.Path.{_≡_};
-ghost use Prim.Native.Nat.{_+_, _-_, _<_, _≤_, _^_, max, min};
+ghost use Prim.Native.Nat.{_+_, _-_, _/_, _<_, _≤_, _^_, max, min};
 ghost use Rattle.folds.specs.Folds.{ceilDiv, when};
 
 // A word as a 64-bit number.
@@ -45,6 +45,14 @@ pub fn less(x: u64, y: u64) -> u64
     if x < y { 0 } else { x - y }
 }
 
+// x / y rounded down.
+pub fn floor_div(x: u64, y: u64) -> u64
+    requires { ⌜ 0 < y ⌝ }
+    ensures { λ r. ⌜ r ≡ x / y ⌝ }
+{
+    x / y
+}
+
 // x / y rounded up.
 pub fn ceil_div(x: u64, y: u64) -> u64
     requires { ⌜ (0 < y) × (x + y ≤ 2 ^ 64) ⌝ }
@@ -53,7 +61,7 @@ pub fn ceil_div(x: u64, y: u64) -> u64
     (x + (y - 1)) / y
 }
 
-// The same, with no division where x is at most y: for callers that often have it so.
+// x / y rounded up, with no division where x is at most y: for callers that often have it so.
 pub fn ceil_div_tested(x: u64, y: u64) -> u64
     requires { ⌜ (0 < y) × (x + y ≤ 2 ^ 64) ⌝ }
     ensures { λ r. ⌜ (r ≡ ceilDiv x y) × (r ≤ x) ⌝ }

@@ -4,6 +4,7 @@ use crate::rows::time;
 use board::fields::access_cycles;
 use board::fields::period;
 use folds::ceil_div;
+use folds::floor_div;
 use folds::less;
 use folds::wide;
 ghost use mathlib.Core.Path.{_≡_};
@@ -20,7 +21,7 @@ fn whole_periods(u: u64, period: u64) -> u64
     requires { ⌜ Between 1 at.longest period × (u ≤ longestWindow) ⌝ }
     ensures { λ r. ⌜ r ≡ u / period ⌝ }
 {
-    u / period
+    floor_div(u, period)
 }
 
 // As many of some accesses of d cycles as fit into the cycles left: no division where they all do.
