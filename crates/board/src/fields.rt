@@ -29,14 +29,6 @@ pub fn traces(board: &[u32]) -> u32
     board[2]
 }
 
-// g.
-pub fn instructions(board: &[u32]) -> u32
-    requires { ⌜ Sound (now board) ⌝ }
-    ensures { λ r. ⌜ (r ≡ at.instructions (now (board .entry))) × Between 1 8192 r ⌝ }
-{
-    board[3]
-}
-
 // 0 none, 1 scratchpad, 2 direct-mapped cache.
 pub fn memory(board: &[u32]) -> u32
     requires { ⌜ Sound (now board) ⌝ }

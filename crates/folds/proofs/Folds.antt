@@ -4,7 +4,7 @@ use Prim.Native.Nat.{ℕ, zero, suc, _+_, _*_, _≤_, _<_, zero-le, max}
 use mathlib.Core.Bool.{Bool, true, false, _||_}
 use mathlib.Core.Logic.{_⊎_, inl, inr, ⊎-elim}
 use mathlib.Core.Path.{_≡_, refl, sym, ap, ap₂, _∙_}
-use native.Mathlib.Nat.{le-refl, le-trans, eq-or-lt-of-le, le-of-suc-le-suc, not-suc-le-zero, suc-mul, add-mul, zero-mul, mul-one, add-zero, add-suc, add-assoc}
+use native.Mathlib.Nat.{le-trans, eq-or-lt-of-le, le-of-suc-le-suc, not-suc-le-zero, suc-mul, add-mul, zero-mul, mul-one, add-zero, add-suc, add-assoc}
 use native.Mathlib.Numerals.{add-one}
 use native.Mathlib.Omega.{arith}
 use Rattle.folds.specs.Folds.{when, sumTo, sumWhere, maxTo, countTo, anyTo}
@@ -123,10 +123,6 @@ sumWhere-rise test test' f g n m h all =
     go : {x y : ℕ} (t t' : Bool) → (t ≡ true → (t' ≡ true) × (x ≤ y)) → when t x ≤ when t' y
     go true t' rise = rw (rise refl .0) (rise refl .1)
     go false t' rise = zero-le
-
--- the terms rise where the test passes
-pub sumWhere-mono : (test : ℕ → Bool) (f g : ℕ → ℕ) (n : ℕ) → ((k : ℕ) → k < n → test k ≡ true → f k ≤ g k) → sumWhere test f n ≤ sumWhere test g n
-sumWhere-mono test f g n all = sumWhere-rise test test f g n n (le-refl n) (λ k h e. (e, all k h e))
 
 pub sumWhere-bound : (test : ℕ → Bool) (f : ℕ → ℕ) (n m : ℕ) → ((k : ℕ) → k < n → f k ≤ m) → sumWhere test f n ≤ n * m
 sumWhere-bound test f n m all = sumTo-bound _ n m (λ k h. when-bound (test k) (all k h))

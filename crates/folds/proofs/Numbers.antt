@@ -49,9 +49,6 @@ div-rise {S} {T} short a b h = go T short
         le-div-iff-mul-le (short .positive (zero-lt-suc T)) .1
         (le-trans (mul-le-mul (le-refl (a / suc T)) (short .le)) (le-trans (div-mul-le-self a (suc T)) h))
 
-pub div-mono : (k a b : ℕ) → a ≤ b → a / k ≤ b / k
-div-mono k = div-rise (shorter-same k)
-
 -- ---- Laws of `ceilDiv`: ceil(a/b) is the least k with a ≤ k × b
 
 pub ceilDiv-least : {a k b : ℕ} → 0 < b → a ≤ k * b → ceilDiv a b ≤ k
