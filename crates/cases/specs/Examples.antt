@@ -3,7 +3,7 @@
 use Prim.Native.Nat.{ℕ, _/_, _%_}
 use mathlib.Core.List.{List, [], _∷_}
 use mathlib.Core.Path.{_≡_, refl}
-use lib.ListN.{length, set}
+use lib.ListN.{length}
 use Rattle.folds.specs.Folds.{ceilDiv, sumTo, maxTo, countTo, anyTo, firstFrom, tabulate, joinTo, fillTo, sameList}
 use Rattle.bitset.specs.Bits.{wordOf, wordsOf}
 use Rattle.board.specs.Layout.{firstTrace, firstInstruction}
@@ -14,6 +14,7 @@ use Rattle.trace.specs.Traces.{traceOf, loads, tracePD, busLoads, traceMD, evic
 use Rattle.figures.specs.Figures.{taskPD, taskMD, evicting, figureOf}
 use Rattle.figures.specs.Overhead.{evictedBy, reloads, γ}
 use Rattle.sums.specs.Sums.{memoryDemand, ownAccesses, carryIn, coreAccesses, lowerAccesses, interference, busAccesses, refreshes, higherWork, taskSum}
+use Rattle.sums.specs.Cases.{K1, K2, K3, K4, K5, K6, K7, K8}
 use Rattle.passes.specs.Passes.{pass, after, unchanged, changes, passesBy, settledBy, firstLate}
 use Rattle.answers.specs.Refusals.{figuresRefusal, overheadRefusal, analyseRefusal}
 use Rattle.answers.specs.Answers.{figuresAnswer, overheadAnswer, settledAnswer, analyseAnswer, timesLeft, timesAfter}
@@ -25,17 +26,7 @@ use Rattle.answers.specs.declared.Answer.{Answer}
 use Rattle.answers.specs.declared.Answer.the-variants.{Times, Late, Spent}
 use Rattle.answers.specs.declared.Outcome.the-variants.{Value}
 
--- ---- K1 to K8: boards without a cache
-
-abbrev pub K1 : List ℕ
-K1 =
-    2 ∷ 2 ∷ 2 ∷ 3 ∷ 0 ∷ 3 ∷ 1 ∷ 5 ∷ 0 ∷ 0 ∷ 0 ∷ 0 ∷ 100 ∷ 0 ∷ 0 ∷ 0 ∷ 0 ∷ 0 ∷ 0 ∷ 0
-    ∷ 1 ∷ 100 ∷ 100 ∷ 1 ∷ 0
-    ∷ 2 ∷ 60 ∷ 60 ∷ 1 ∷ 0
-    ∷ 2 ∷ 1
-    ∷ 0 ∷ 1 ∷ 2
-    ∷ 131072 ∷ 268664832 ∷ 537165825
-    ∷ []
+-- ---- K1 to K8: boards without a cache, which `sums` has
 
 -- a times buffer of three words, one more than K1's tasks
 abbrev lent : List ℕ
@@ -48,29 +39,6 @@ answer b = analyseAnswer b (length lent) 12 2
 -- the answer is times, with these passes, and the times buffer begins with these two times
 abbrev Settles : List ℕ → ℕ → ℕ → ℕ → Type 0
 Settles b time1 time2 passes = (answer b ≡ Times passes) × (timesAfter b (answer b) lent ≡ time1 ∷ time2 ∷ 7 ∷ [])
-
-abbrev K2 : List ℕ
-K2 = set (set K1 26 50) 27 50
-
-abbrev K3 : List ℕ
-K3 = set K1 22 35
-
-abbrev K4 : List ℕ
-K4 = set K1 22 34
-
--- K1 with another pass limit
-abbrev K5 : ℕ → List ℕ
-K5 limit = set K1 12 limit
-
--- K1 on another bus, word 6 being 0
-abbrev K6 : ℕ → List ℕ
-K6 bus = set (set K1 5 bus) 6 0
-
-abbrev K7 : List ℕ
-K7 = set K1 5 4
-
-abbrev K8 : List ℕ
-K8 = set (set (set (set K7 8 2) 9 20) 10 1) 11 3
 
 -- the bytes of the words, the lowest first
 abbrev bytesOf : List ℕ → List ℕ

@@ -1,13 +1,13 @@
 -- A task's sum is below 2^64 on every board that passes its checks, at times of at most D + 1, on every bus and with every refresh.
 -- Assumes nothing.
 use Prim.Native.Nat.{ℕ, zero, suc, _+_, _-_, _*_, _/_, _^_, _≤_, _<_, min}
-use mathlib.Core.Bool.{Bool, not}
+use mathlib.Core.Bool.{Bool}
 use mathlib.Core.List.{List}
 use mathlib.Core.Logic.{⊎-elim}
 use mathlib.Core.Path.{_≡_, ap}
 use native.Mathlib.Nat.{le-trans, le-refl, mul-div-cancel, mul-le-mul}
 use native.Mathlib.Omega.{arith}
-use lib.Dec.{eqb, ltb}
+use lib.Dec.{eqb}
 use lib.ListN.{getD}
 use Rattle.folds.specs.Folds.{ceilDiv, sumTo, sumWhere}
 use Rattle.folds.proofs.Numbers.{le-or-lt, ceilDiv-self}
@@ -17,7 +17,7 @@ use Rattle.board.specs.Sound.{Sound}
 use Rattle.figures.specs.Figures.{taskPD}
 use Rattle.figures.proofs.Overhead.{γ-bound}
 use Rattle.figures.proofs.Bounds.{taskPD-bound, taskMD-bound}
-use Rattle.sums.specs.Sums.{lowest, memoryDemand, overCores, window, ownAccesses, carryIn, coreAccesses, interference, busAccesses, refreshes, higherWork, taskSum}
+use Rattle.sums.specs.Sums.{lowest, memoryDemand, isOther, isBefore, isAfter, overCores, window, ownAccesses, carryIn, coreAccesses, interference, busAccesses, refreshes, higherWork, taskSum}
 use Rattle.sums.specs.Limits.{mostCores, mostSlots, longestAccess, latestTime, mostWork, mostDemand, mostReleases, longestWindow, mostCarryIn, mostOwnAccesses, mostHigherWork, mostAccesses, mostInterference, mostBusAccesses}
 use Rattle.sums.specs.Inputs.{Times, releaseCost}
 use Rattle.sums.proofs.Rising.{carry-mono}
@@ -105,14 +105,20 @@ module _ (b R : List ℕ) (s : Sound b) (times : Times b R) where
         omega (
           arith,
           ownAccesses-bound,
-          overCores-bound (λ y. not (eqb y (core b i))) (λ y. coreAccesses b R (getD R i 0) i y) (λ y. coreAccesses-bound (getD R i 0) late i y task),
+          overCores-bound (isOther (core b i)) (λ y. coreAccesses b R (getD R i 0) i y) (λ y. coreAccesses-bound (getD R i 0) late i y task),
         )
-    interference-bound (suc zero) = omega (arith, ownAccesses-bound, overCores-bound (λ y. ltb y (core b i)) A everyone-bound)
-    interference-bound (suc (suc zero)) = omega (arith, overCores-bound (λ y. not (eqb y (core b i))) A everyone-bound)
+    interference-bound (suc zero) =
+        omega (
+          arith,
+          ownAccesses-bound,
+          overCores-bound (isBefore (core b i)) A everyone-bound,
+          overCores-bound (isAfter (core b i)) A everyone-bound,
+        )
+    interference-bound (suc (suc zero)) = omega (arith, overCores-bound (isOther (core b i)) A everyone-bound)
     interference-bound (suc (suc (suc zero))) =
         omega (
           arith,
-          overCores-bound (λ y. not (eqb y (core b i))) (λ y. min (A y) (slots b y * ownAccesses b R i)) (λ y. omega (arith, everyone-bound y)),
+          overCores-bound (isOther (core b i)) (λ y. min (A y) (slots b y * ownAccesses b R i)) (λ y. omega (arith, everyone-bound y)),
         )
     interference-bound (suc (suc (suc (suc c)))) =
         omega (

@@ -8,3 +8,4 @@ pub mod Releases
 pub mod Refreshes
 pub mod Bounds
 pub mod Inputs
+pub mod Cases

@@ -5,10 +5,10 @@
 -- period leaves more of u, or enters a further period.
 -- Assumes nothing.
 use Prim.Native.Nat.{ℕ, zero, suc, _+_, _-_, _*_, _/_, _%_, _≤_, _<_, min, zero-le}
-use mathlib.Core.Bool.{Bool, true, not, _&&_}
+use mathlib.Core.Bool.{Bool, true, _&&_}
 use mathlib.Core.List.{List}
 use mathlib.Core.Logic.{⊎-elim}
-use mathlib.Core.Path.{_≡_, refl, sym, ap, ap₂, subst, subst₂, _∙_}
+use mathlib.Core.Path.{_≡_, refl, sym, ap, ap₂, subst, _∙_}
 use native.Mathlib.Nat.{eq-or-lt-of-le, div-add-mod', mul-suc, mul-le-mul, mul-le-mul-left, le-refl, le-of-eq}
 use native.Mathlib.Omega.{arith}
 use lib.Dec.{eqb, ltb}
@@ -20,7 +20,7 @@ use Rattle.folds.proofs.Folds.{sumWhere-rise}
 use Rattle.board.specs.Layout.{word, cores, tasks, bus, slots, accessCycles, refresh, refreshInterval, refreshRows, refreshCycles, core, period}
 use Rattle.folds.proofs.Numbers.{and-both}
 use Rattle.figures.specs.Figures.{taskPD}
-use Rattle.sums.specs.Sums.{lowest, memoryDemand, overCores, window, ownAccesses, carryIn, coreAccesses, lowerAccesses, interference, busAccesses, refreshes, higherWork, taskSum}
+use Rattle.sums.specs.Sums.{lowest, memoryDemand, isOther, isBefore, isAfter, overCores, window, ownAccesses, carryIn, coreAccesses, lowerAccesses, interference, busAccesses, refreshes, higherWork, taskSum}
 use Rattle.sums.specs.Inputs.{releaseCost}
 use Rattle.sums.proofs.Numbers.{product-cong}
 
@@ -43,14 +43,14 @@ abbrev Leaves : ℕ → (ℕ → Bool) → Type 0
 Leaves x test = (y : ℕ) → test y ≡ true → y ≡ x → ⊥
 
 module _ (x : ℕ) where
-  not-own : Leaves x (λ y. not (eqb y x))
-  not-own y e = eqb-false y x (not-true (eqb y x) e)
+  other-leaves : Leaves x (isOther x)
+  other-leaves y e = eqb-false y x (not-true (eqb y x) e)
 
-  before-own : Leaves x (λ y. ltb y x)
-  before-own y e same = omega (arith, ltb-true y x e)
+  before-leaves : Leaves x (isBefore x)
+  before-leaves y e same = omega (arith, ltb-true)
 
-  after-own : Leaves x (λ y. ltb x y)
-  after-own y e same = omega (arith, ltb-true x y e)
+  after-leaves : Leaves x (isAfter x)
+  after-leaves y e same = omega (arith, ltb-true)
 
 -- the sums of board b' are those of b with as much work or more, and periods as long or shorter: of all else that a sum reads they have the same
 pub record Heavier (b b' : List ℕ) : Type 0 where
@@ -105,11 +105,12 @@ module _ (b b' R R' : List ℕ) (heavier : Heavier b b') where
         let u = window b R t j k in
         let v = window b' R' t' j k in
         let rise : u ≤ v = omega (arith, product-cong same same-access) in
-        subst₂
-        (λ (m d : ℕ).
-        memoryDemand b j k * (u / period b k) + min (memoryDemand b j k) (ceilDiv (u % period b k) (accessCycles b))
-        ≤ m * (v / period b' k) + min m (ceilDiv (v % period b' k) d)) same same-access
-        (carry-rise (memoryDemand b j k) (accessCycles b) (heavier .periods k h) u v rise)
+        omega (
+          arith,
+          carry-rise (memoryDemand b j k) (accessCycles b) (heavier .periods k h) u v rise,
+          ap (λ (m : ℕ). m * (v / period b' k)) same,
+          ap (ceilDiv (v % period b' k)) same-access,
+        )
 
     coreAccesses-rise : (j y : ℕ) → j < tasks b → RiseOn b R R' y → coreAccesses b R t j y ≤ coreAccesses b' R' t' j y
     unfolding coreAccesses
@@ -186,9 +187,9 @@ module _ (b b' R R' : List ℕ) (heavier : Heavier b b') where
         omega (
           arith,
           ownAccesses-rise,
-          overCores-rise (λ x y. not (eqb y x)) (not-own (core b i)) (λ y. coreAccesses b R t i y) (λ y. coreAccesses b' R' t' i y)
+          overCores-rise isOther (other-leaves (core b i)) (λ y. coreAccesses b R t i y) (λ y. coreAccesses b' R' t' i y)
               (λ y off. coreAccesses-rise t t' own i y task (rise y off)),
-          overCores-rise (λ x y. not (eqb y x)) (not-own (core b i)) (λ y. lowerAccesses b R t i y) (λ y. lowerAccesses b' R' t' i y)
+          overCores-rise isOther (other-leaves (core b i)) (λ y. lowerAccesses b R t i y) (λ y. lowerAccesses b' R' t' i y)
               (λ y off. lowerAccesses-rise t t' own i y (rise y off)),
         )
     interference-rise (suc zero) others =
@@ -196,13 +197,13 @@ module _ (b b' R R' : List ℕ) (heavier : Heavier b b') where
         omega (
           arith,
           ownAccesses-rise,
-          overCores-rise (λ x y. ltb y x) (before-own (core b i)) A A' every,
-          overCores-rise (λ x y. ltb x y) (after-own (core b i)) A A' every,
+          overCores-rise isBefore (before-leaves (core b i)) A A' every,
+          overCores-rise isAfter (after-leaves (core b i)) A A' every,
         )
     interference-rise (suc (suc zero)) others =
-        overCores-rise (λ x y. not (eqb y x)) (not-own (core b i)) A A' (everyone-rise (others (omega arith)))
+        overCores-rise isOther (other-leaves (core b i)) A A' (everyone-rise (others (omega arith)))
     interference-rise (suc (suc (suc zero))) others =
-        overCores-rise (λ x y. not (eqb y x)) (not-own (core b i)) (λ y. min (A y) (slots b y * ownAccesses b R i))
+        overCores-rise isOther (other-leaves (core b i)) (λ y. min (A y) (slots b y * ownAccesses b R i))
         (λ y. min (A' y) (slots b' y * ownAccesses b' R' i))
         (λ y off.
         omega (

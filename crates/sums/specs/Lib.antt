@@ -2,3 +2,4 @@
 pub mod Sums
 pub mod Limits
 pub mod Inputs
+pub mod Cases

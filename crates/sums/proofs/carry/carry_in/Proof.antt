@@ -15,10 +15,13 @@ returns : tie.Need-returns
 unfolding carryIn
 returns c =
     let m = c .before .before .before .before .before in
-    c .in-window .ensures
-    ∙ carry-cong _ (m .demand .ensures .0) (m .before .wide .ensures .0 ∙ m .before .before .access-cycles .ensures .0)
-    (c .before .before .wide2 .ensures .0 ∙ c .before .before .before .period .ensures .0)
-    (c .before .before .before .before .time .ensures .0) (c .before .less .ensures)
+    omega (
+      arith,
+      c .in-window .ensures,
+      carry-cong _ (m .demand .ensures .0) (m .before .wide .ensures .0 ∙ m .before .before .access-cycles .ensures .0)
+          (c .before .before .wide2 .ensures .0 ∙ c .before .before .before .period .ensures .0)
+          (c .before .before .before .before .time .ensures .0) (c .before .less .ensures),
+    )
 
 pub carry-in-spec : {M : Type 1} → statement M
 carry-in-spec =
