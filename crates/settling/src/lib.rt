@@ -5,6 +5,7 @@ use folds::words::clear;
 use one_pass::advance;
 use one_pass::make_pass;
 ghost use mathlib.Core.Path.{_≡_};
+ghost use Prim.Native.Nat.{_-_, _≤_};
 ghost use Rattle.passes.specs.Passes.{pass};
 ghost use Rattle.scratch.specs.Scratch.{Prepared};
 ghost use Rattle.one_pass.specs.System.{system};
@@ -14,6 +15,14 @@ ghost use Rattle.settling.specs.Settling.{passesOf, Ended};
 pub enum Passes {
     Needed(u32),
     Over,
+}
+
+// The passes made, where the limit has so many left.
+fn made(limit: u32, left: u32) -> u32
+    requires { ⌜ left ≤ limit ⌝ }
+    ensures { λ r. ⌜ r ≡ limit - left ⌝ }
+{
+    limit - left
 }
 
 // Makes passes from all zeros until one changes nothing, at most `limit` of them. Where the limit allows the passes needed,
@@ -37,8 +46,8 @@ pub fn run(board: &[u32], n: usize, limit: u32, scratch: &mut [u32]) -> Passes
         let mut i = 0;
         'compare: loop {
             if i == n {
-                let made = limit - left;
-                break 'passes Passes::Needed(made);
+                let count = made(limit, left);
+                break 'passes Passes::Needed(count);
             }
             if scratch[i] != scratch[n + i] {
                 break 'compare;

@@ -1,7 +1,7 @@
 -- `settling::run` meets its contract. The loop over passes knows `Underway`; the comparison knows that the halves agree below i.
 -- Assumes nothing.
 use Prim.Native.Nat.{ℕ, _+_, _-_, _≤_, _<_}
-use mathlib.Core.Path.{_≡_, refl}
+use mathlib.Core.Path.{_≡_, refl, ap, _∙_}
 use native.Mathlib.Omega.{arith}
 use lib.ListN.{length, getD}
 use borrow.Author.Count.{below-more}
@@ -9,6 +9,7 @@ use borrow.Author.Needs.{needs}
 use Rattle.scratch.specs.Scratch.{Prepared}
 use Rattle.folds.proofs.Stored.{filled-stored}
 use Rattle.scratch.proofs.Prepared.{passable, passable-kept, prepared-stored}
+use Rattle.settling.specs.declared.Passes.the-variants.{Needed}
 use Rattle.settling.proofs.Underway.{Underway, underway-start, underway-startable, underway-over, underway-next, underway-still, ended-cleared}
 use Rattle.settling.proofs.run.Statement.{statement}
 use Rattle.settling.proofs.run.Tie as tie
@@ -84,8 +85,8 @@ run-spec =
     (end .0, ended-cleared (s .args .n) (s .args .scratch .now) (h .before .before .before .clear .ensures) (end .1), h .passes .inv .2))
     (λ c. search needs)
     (λ c.
-    let m = c .before .before .before .before in
+    let m = c .before .before .before .before .before in
     let h = head-of m in
     let s = h .before .before .before .before .before .before .before in
-    let end = underway-still (h .passes .inv .0) (omega arith) (m .make-pass .ensures) (λ k l. c .before .compare .inv .1 k (omega arith)) in
-    (end .0, ended-cleared (s .args .n) (s .args .scratch .now) (h .before .before .before .clear .ensures) (end .1), prepared-stored (h .passes .inv .2) (m .make-pass .ensures) (omega arith))))
+    let end = underway-still (h .passes .inv .0) (omega arith) (m .make-pass .ensures) (λ k l. c .before .before .compare .inv .1 k (omega arith)) in
+    (ap Needed (c .made .ensures) ∙ end .0, ended-cleared (s .args .n) (s .args .scratch .now) (h .before .before .before .clear .ensures) (end .1), prepared-stored (h .passes .inv .2) (m .make-pass .ensures) (omega arith))))
