@@ -1,5 +1,6 @@
 /*
- * Zuzgravel: longest response times of the tasks of a multicore controller.
+ * Zuzgravel: worst-case response times of the tasks of a multicore controller, as upper bounds: no task takes longer, as long as every
+ * core runs the board's tasks as recorded and none of them is released more often than its period.
  *
  * The four calls of the proved library (`rt staticlib capi` writes target/staticlib/libcapi.a). Each call takes every input: it
  * tests what it is given and refuses with the number and the place of the refusal table (README.md). No call keeps a pointer,
@@ -69,9 +70,9 @@ uint32_t zuzgravel_weigh(const uint32_t *board, size_t board_words, const uint32
                          uint64_t answer[2]);
 
 /*
- * Analyse: ZUZGRAVEL_VALUE puts the longest response time of each task into the first n words of `times`; later words stay as they
- * were, and so does the whole of `times` with every other code. Unless refused, the first n records of `records` are filled as by
- * zuzgravel_figures, and `scratch` ends with free contents.
+ * Analyse: ZUZGRAVEL_VALUE puts the time of each task, a bound on its longest response time, into the first n words of `times`;
+ * later words stay as they were, and so does the whole of `times` with every other code. Unless refused, the first n records of
+ * `records` are filled as by zuzgravel_figures, and `scratch` ends with free contents.
  * Refuses with rows 1 to 9, 11 (times) and 12 (scratch), whose places are the lengths found, in words, and 13 (records), whose place is
  * the room in records, record_words / ZUZGRAVEL_RECORD_WORDS.
  */

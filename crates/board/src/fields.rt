@@ -53,7 +53,7 @@ pub fn slots_each(board: &[u32]) -> u32
     board[6]
 }
 
-// The slots of core y.
+// The slots of core y, which is not read before each core has its own (document 02, change 8).
 pub fn slots(board: &[u32], y: u32) -> u32
     requires { ⌜ (Sound (now board)) × (3 ≤ at.bus (now board)) × Between 1 (at.cores (now board)) y ⌝ }
     ensures { λ r. ⌜ (r ≡ at.slots (now (board .entry)) y) × Between 1 8 r ⌝ }
