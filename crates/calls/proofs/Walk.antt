@@ -139,6 +139,9 @@ module _ (S : RattleType) (g : Buffers) (xs : List Extra) (Refuse : List ℕ →
         ∷ tyUnit ∷ tyRef erased imm (tyArray (tyInt w32) 256) ∷ sliceTy (tyRef erased imm (tyInt w32)) ∷ tyRef erased imm (tyArray (tyInt w64) 256)
         ∷ tyRef erased mut (pointee (T.the-row .written)) ∷ sliceTy (tyRef erased mut (pointee (T.the-row .written))) ∷ []
 
+    abbrev ownTys : List Ty
+    ownTys = tyInt w64 ∷ tyArray (tyInt w32) 256 ∷ tyArray (tyInt w64) 256 ∷ σ ∷ []
+
     -- the MIR
     abbrev function : Fn
     function = record {
@@ -151,13 +154,13 @@ module _ (S : RattleType) (g : Buffers) (xs : List Extra) (Refuse : List ℕ →
       body = seq (assign (place (early-at 0) []) (rvOpd (int w64 0)))
           (seq (assign (place (early-at 1) []) (repeat (int w32 0) 256))
           (seq (assign (place (early-at 2) []) (repeat (int w64 0) 256))
-          (lendings g (tys xs)
+          (lendings (tys xs) ownTys g
           (seq (assign (place (late-at 0) []) (rvOpd (copy (place (count (paramTys g) + 2) (field 1 ∷ [])))))
           (seq (assign (place (late-at 1) []) (addrOf (place (early-at 0) [])))
           (seq (assign (place (late-at 2) []) (addrOf (place (early-at 1) [])))
           (seq (assign (place (late-at 3) []) (aggregate (copy (place (late-at 2) []) ∷ int w64 256 ∷ [])))
           (seq (assign (place (late-at 4) []) (addrOf (place (early-at 2) [])))
-          (seq (call #work (copy (place 1 []) ∷ (lendOperands g (tys xs) ++ (copy (place (late-at 0) []) ∷ copy (place (late-at 1) []) ∷ copy (place (late-at 3) [])
+          (seq (call #work (copy (place 1 []) ∷ (lendOperands (tys xs) ownTys g ++ (copy (place (late-at 0) []) ∷ copy (place (late-at 1) []) ∷ copy (place (late-at 3) [])
           ∷ copy (place (late-at 4) []) ∷ operands (count (paramTys g) + 3) (tys xs)))) (place (early-at 3) []))
           (seq (assign (place (late-at 0) []) (rvOpd (copy (place (early-at 0) []))))
           (seq (assign (place (late-at 6) []) (addrOf (place (early-at 1) [])))
@@ -273,15 +276,11 @@ module _ (S : RattleType) (g : Buffers) (xs : List Extra) (Refuse : List ℕ →
               (λ βX. alloc1 ! (λ l₃. alloc1 ! (λ l₄. alloc1 ! (λ l₅. alloc1 ! (λ l₆. alloc-all ! (tempTys g)
               (λ βL. alloc1 ! (λ l₇. alloc1 ! (λ l₈. alloc1 ! (λ l₉. alloc1 ! (λ l₁₀. alloc1 ! (λ l₁₁. alloc1 !
               (λ l₁₂. alloc1 ! (λ l₁₃. alloc1 ! (λ l₁₄. alloc1 ! (λ l₁₅. alloc1 ! (λ l₁₆. alloc1 ! (λ l₁₇.
-              let Z : Locals (paramTys g) (tys xs) (tempTys g) = record {
+              let Z : Locals (paramTys g) (tys xs) ownTys (tempTys g) = record {
                 buffers = βB;
                 table = (tableTy, l₂);
                 extras = βX;
-                count = (tyInt w64, l₃);
-                words =
-                    (tyArray (tyInt w32) 256, l₄);
-                sets = (tyArray (tyInt w64) 256, l₅);
-                answer = (σ, l₆);
+                own = (l₃, (l₄, (l₅, (l₆, tt))));
                 lent = βL;
                 temps = env lateTys
                     (l₇, (l₈, (l₉, (l₁₀, (l₁₁, (l₁₂, (l₁₃, (l₁₄, (l₁₅, (l₁₆, (l₁₇, tt)))))))))));
