@@ -1,0 +1,119 @@
+// An answer and the records of a table on standard output.
+use answers::Answer;
+use answers::Outcome;
+use figures::Figure;
+use folds::wide;
+use libc::STDOUT_FILENO;
+use lines::print::end_line;
+use lines::print::print_field;
+use lines::print::print_refusal;
+ghost use Prim.Native.Nat.{_≤_};
+
+pub fn outcome_small(outcome: Outcome, table: [Figure; 3]) {
+    print_outcome(outcome);
+    small(table);
+}
+
+pub fn outcome_large(outcome: Outcome, table: [Figure; 64]) {
+    print_outcome(outcome);
+    large(table);
+}
+
+pub fn answer_small(answer: Answer, table: [Figure; 3]) {
+    print_answer(answer);
+    small(table);
+}
+
+// The value, or `bad` with number and place.
+pub fn print_outcome(outcome: Outcome) {
+    match outcome {
+        Outcome::Value(value) => {
+            io::print_decimal(STDOUT_FILENO, value);
+            end_line();
+        }
+        Outcome::Refused(number, place) => {
+            print_refusal(number, place);
+        }
+    }
+}
+
+// `ok` and the passes, `late` with the task and the passes, `spent`, or `bad` with number and place.
+fn print_answer(answer: Answer) {
+    match answer {
+        Answer::Times(passes) => {
+            io::write_all(STDOUT_FILENO, b"ok");
+            print_field(wide(passes));
+            end_line();
+        }
+        Answer::Late(task, passes) => {
+            io::write_all(STDOUT_FILENO, b"late");
+            print_field(wide(task));
+            print_field(wide(passes));
+            end_line();
+        }
+        Answer::Spent => {
+            io::write_all(STDOUT_FILENO, b"spent\n");
+        }
+        Answer::Refused(number, place) => {
+            print_refusal(number, place);
+        }
+    }
+}
+
+// Every record.
+fn small(table: [Figure; 3]) {
+    print_record(1, table[0]);
+    print_record(2, table[1]);
+    print_record(3, table[2]);
+}
+
+// Every record that is not as `marked` has it, then `same` and how many are.
+fn large(table: [Figure; 64]) {
+    let mut same: u64 = 0;
+    let mut k: u64 = 0;
+    while k < 64 {
+        let f = table[k as usize];
+        same += print_unless_marked(k + 1, f);
+        k += 1;
+    }
+    io::write_all(STDOUT_FILENO, b"same");
+    print_field(same);
+    end_line();
+}
+
+// 1 where the record is as `marked` has it, and 0 where it is not and is printed.
+fn print_unless_marked(number: u64, f: Figure) -> u64
+    ensures { λ r. ⌜ r ≤ 1 ⌝ }
+{
+    if is_marked(f) {
+        1
+    } else {
+        print_record(number, f);
+        0
+    }
+}
+
+// Whether every word of a record is 9.
+fn is_marked(f: Figure) -> bool {
+    let ecb = f.ecb;
+    f.core == 9 && f.period == 9 && f.deadline == 9 && f.pd == 9 && f.md == 9 && are_nine(ecb)
+}
+
+fn are_nine(words: [u64; 4]) -> bool {
+    words[0] == 9 && words[1] == 9 && words[2] == 9 && words[3] == 9
+}
+
+// Its number from 1, core, T, D, PD, MD and the words of its ECB.
+fn print_record(number: u64, f: Figure) {
+    io::print_decimal(STDOUT_FILENO, number);
+    print_field(wide(f.core));
+    print_field(wide(f.period));
+    print_field(wide(f.deadline));
+    print_field(wide(f.pd));
+    print_field(wide(f.md));
+    print_field(f.ecb[0]);
+    print_field(f.ecb[1]);
+    print_field(f.ecb[2]);
+    print_field(f.ecb[3]);
+    end_line();
+}
