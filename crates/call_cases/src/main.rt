@@ -2,8 +2,10 @@
 // the words that the call takes beside the board, which is that of the last line with one. The input is made of blocks of 65,536 bytes, at most 64, each
 // with whole lines of which the first has a board; a line of dots fills a block up.
 mod analyse;
-mod board_figures;
 mod board_page;
+mod overheads;
+mod tables;
+mod task;
 mod verdict;
 mod weigh;
 
@@ -72,10 +74,14 @@ fn answer(words: &[u32], board: &[u32]) {
 fn answer_call(call: u32, given: &[u32], board: &[u32]) {
     match call {
         1 => verdict::answer(board),
-        2 => board_figures::answer(board),
+        2 => tables::figures_of_64(board),
         3 => weigh::answer(given, board),
         4 => analyse::answer(board),
         5 => board_page::answer(board),
+        6 => tables::figures_of_3(board),
+        7 => tables::analyse_of_3(board),
+        8 => overheads::one(given, board),
+        9 => overheads::rows(given, board),
         _ => {}
     }
 }
