@@ -15,11 +15,11 @@ pub fn one(given: &[u32], board: &[u32]) {
     }
 }
 
-// The words are the rows to pass over and n. A line for each further task i up to n: `gamma` and the overheads γ(i, j) of the tasks j from 1 to n.
+// The word is n. A line for each task i from 1 to n: `gamma` and the overheads γ(i, j) of the tasks j from 1 to n.
 pub fn rows(given: &[u32], board: &[u32]) {
-    if given.len() == 2 {
-        let n = index(given[1]);
-        let mut i = index(given[0]);
+    if given.len() == 1 {
+        let n = index(given[0]);
+        let mut i: usize = 0;
         while i < n {
             i += 1;
             row(board, i, n);
