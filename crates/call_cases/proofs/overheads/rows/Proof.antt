@@ -14,4 +14,5 @@ abbrev μ : tie.MeasureT-loop
 pub rows-spec : {M : Type 1} → statement M
 rows-spec =
     tie.close
-    (tie.spec Inv μ (λ c. search needs) (λ c κs. search needs) (λ c. tt) (λ c. search needs) (λ c κs. search needs) (λ c. search needs) (λ c. tt) (λ c. search needs) (λ c. search needs))
+    (tie.spec Inv μ (λ c. search needs) (λ c κs. search needs) (λ c. tt)
+    (λ c. search needs) (λ c κs. search needs) (λ c. search needs) (λ c. tt) (λ c. search needs) (λ c. search needs))
