@@ -1,6 +1,6 @@
 // Calls 8 and 9: the overhead of two tasks, and rows of overheads, by `calls::overhead`.
 use crate::task::task;
-use answers::Outcome;
+use calls::Outcome;
 use calls::overhead;
 use folds::index;
 use lent::print::print_outcome;

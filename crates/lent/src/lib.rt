@@ -1,7 +1,7 @@
 // The calls that fill a table, each with a table that is handed in by value: it is lent to the call, and then printed with the answer.
 pub mod print;
 
-use figures::Figure;
+use calls::Figure;
 
 pub fn figures_small(board: &[u32], mut table: [Figure; 3]) {
     let outcome = calls::figures(board, &mut table);

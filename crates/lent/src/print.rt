@@ -1,7 +1,7 @@
 // An answer and the records of a table on standard output.
-use answers::Answer;
-use answers::Outcome;
-use figures::Figure;
+use calls::Answer;
+use calls::Figure;
+use calls::Outcome;
 use folds::wide;
 use libc::STDOUT_FILENO;
 use lines::print::end_line;
