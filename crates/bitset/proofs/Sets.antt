@@ -19,27 +19,27 @@ use Rattle.folds.specs.Folds.{countTo, tabulate}
 use Rattle.folds.proofs.Numbers.{eqb-iff}
 use Rattle.folds.proofs.Folds.{countTo-none, countTo-cong, countTo-split}
 use Rattle.folds.proofs.Lists.{getD-set-all, length-tabulate, getD-tabulate, tabulate-cong}
-use Rattle.bitset.specs.Bits.{bit, member, wordAt, wordsOf}
+use Rattle.bitset.specs.Bits.{bit, member, setWord, wordsOf}
 use Rattle.bitset.proofs.Words.{bit-none, bit-or, bit-and, bit-not, oneAt, bit-oneAt, ones-count, bit-wordOf, wordOf-is, wordOf-cong}
 
 -- ---- the words of a test
 
 pub wordsOf-length : (test : ℕ → Bool) → length (wordsOf test) ≡ 4
 unfolding wordsOf
-wordsOf-length test = length-tabulate (wordAt test) 0 4
+wordsOf-length test = length-tabulate (setWord test) 0 4
 
-pub wordsOf-at : (test : ℕ → Bool) (i : ℕ) → i < 4 → getD (wordsOf test) i 0 ≡ wordAt test i
+pub wordsOf-at : (test : ℕ → Bool) (i : ℕ) → i < 4 → getD (wordsOf test) i 0 ≡ setWord test i
 unfolding wordsOf
-wordsOf-at test i h = getD-tabulate (wordAt test) 0 4 i h
+wordsOf-at test i h = getD-tabulate (setWord test) 0 4 i h
 
-wordsOf-each : (word : ℕ → ℕ) (test : ℕ → Bool) → ((i : ℕ) → i < 4 → word i ≡ wordAt test i) → (word 0 ∷ word 1 ∷ word 2 ∷ word 3 ∷ []) ≡ wordsOf test
+wordsOf-each : (word : ℕ → ℕ) (test : ℕ → Bool) → ((i : ℕ) → i < 4 → word i ≡ setWord test i) → (word 0 ∷ word 1 ∷ word 2 ∷ word 3 ∷ []) ≡ wordsOf test
 unfolding wordsOf tabulate
-wordsOf-each word test same = tabulate-cong word (wordAt test) 4 same
+wordsOf-each word test same = tabulate-cong word (setWord test) 4 same
 
 pub wordsOf-cong : (test test' : ℕ → Bool) → ((s : ℕ) → s < 256 → test s ≡ test' s) → wordsOf test ≡ wordsOf test'
 unfolding wordsOf
 wordsOf-cong test test' same =
-    tabulate-cong (wordAt test) (wordAt test') 4
+    tabulate-cong (setWord test) (setWord test') 4
     (λ i h. wordOf-cong (λ j. test (64 * i + j)) (λ j. test' (64 * i + j)) 64 (λ j l. same (64 * i + j) (omega arith)))
 
 -- a number's word and its bit there

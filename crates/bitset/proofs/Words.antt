@@ -11,7 +11,7 @@ use lib.Arith.{digits-div, digits-mod}
 use lib.Pow.{shr-shr, shl-exact}
 use lib.Bits.{bitAnd, bitOr, and-shr, and-mod, or-shr, or-mod}
 use lib.Count.{ones, onesIn, ones-step}
-use Rattle.folds.specs.Folds.{when, sumTo, countTo}
+use Rattle.folds.specs.Folds.{onlyIf, sumTo, countTo}
 use Rattle.folds.proofs.Folds.{sumTo-cong, sumTo-first, sumTo-scale, countTo-none, countTo-cong, countTo-first}
 use Rattle.bitset.specs.Bits.{bit, wordOf}
 
@@ -25,13 +25,13 @@ binary P p q (suc (suc x)) h = absurd (not-suc-le-zero (le-of-suc-le-suc (le-of-
 binary² : (P : ℕ → ℕ → Type 0) → P 0 0 → P 0 1 → P 1 0 → P 1 1 → (x y : ℕ) → x < 2 → y < 2 → P x y
 binary² P p q r s x y hx hy = binary (λ (z : ℕ). P z y) (binary (P 0) p q y hy) (binary (P 1) r s y hy) x hx
 
-digit-of : (t : Bool) → eqb (when t 1) 1 ≡ t
+digit-of : (t : Bool) → eqb (onlyIf t 1) 1 ≡ t
 digit-of true = refl
 digit-of false = refl
 
-when-lt : (t : Bool) → when t 1 < 2
-when-lt true = omega arith
-when-lt false = omega arith
+onlyIf-lt : (t : Bool) → onlyIf t 1 < 2
+onlyIf-lt true = omega arith
+onlyIf-lt false = omega arith
 
 -- ---- the lowest bit, and the bits of the half
 
@@ -43,8 +43,8 @@ bit-suc : (x k : ℕ) → bit x (suc k) ≡ bit (x / 2) k
 unfolding bit
 bit-suc x k = ap (λ (y : ℕ). eqb (y % 2) 1) (ap (λ (j : ℕ). x / 2 ^ j) (sym (one-add k)) ∙ sym (shr-shr x 1 k))
 
-low-bit : (x : ℕ) → when (bit x 0) 1 ≡ x % 2
-low-bit x = ap (λ (t : Bool). when t 1) (bit-zero x) ∙ binary (λ (d : ℕ). when (eqb d 1) 1 ≡ d) refl refl (x % 2) (omega arith)
+low-bit : (x : ℕ) → onlyIf (bit x 0) 1 ≡ x % 2
+low-bit x = ap (λ (t : Bool). onlyIf t 1) (bit-zero x) ∙ binary (λ (d : ℕ). onlyIf (eqb d 1) 1 ≡ d) refl refl (x % 2) (omega arith)
 
 half-lt : (x n : ℕ) → x < 2 ^ suc n → x / 2 < 2 ^ n
 half-lt x n h = let l : x < 2 ^ n * 2 = rw pow-suc at h in omega arith
@@ -128,22 +128,22 @@ unfolding wordOf sumTo
 wordOf-none test = refl
 
 -- its lowest bit apart
-wordOf-first : (test : ℕ → Bool) (n : ℕ) → wordOf test (suc n) ≡ wordOf (λ j. test (suc j)) n * 2 + when (test 0) 1
+wordOf-first : (test : ℕ → Bool) (n : ℕ) → wordOf test (suc n) ≡ wordOf (λ j. test (suc j)) n * 2 + onlyIf (test 0) 1
 unfolding wordOf
 wordOf-first test n =
-    let doubled : sumTo (λ j. when (test (suc j)) 1 * 2 ^ suc j) n ≡ sumTo (λ j. when (test (suc j)) 1 * 2 ^ j) n * 2 =
-    sumTo-cong (λ j. when (test (suc j)) 1 * 2 ^ suc j) (λ j. when (test (suc j)) 1 * 2 ^ j * 2) n
-    (λ j l. ap (λ (y : ℕ). when (test (suc j)) 1 * y) (pow-suc 2 j) ∙ sym (mul-assoc (when (test (suc j)) 1) (2 ^ j) 2))
-    ∙ sumTo-scale (λ j. when (test (suc j)) 1 * 2 ^ j) 2 n in
-    omega (arith, sumTo-first (λ j. when (test j) 1 * 2 ^ j) n, mul-one (when (test 0) 1), doubled)
+    let doubled : sumTo (λ j. onlyIf (test (suc j)) 1 * 2 ^ suc j) n ≡ sumTo (λ j. onlyIf (test (suc j)) 1 * 2 ^ j) n * 2 =
+    sumTo-cong (λ j. onlyIf (test (suc j)) 1 * 2 ^ suc j) (λ j. onlyIf (test (suc j)) 1 * 2 ^ j * 2) n
+    (λ j l. ap (λ (y : ℕ). onlyIf (test (suc j)) 1 * y) (pow-suc 2 j) ∙ sym (mul-assoc (onlyIf (test (suc j)) 1) (2 ^ j) 2))
+    ∙ sumTo-scale (λ j. onlyIf (test (suc j)) 1 * 2 ^ j) 2 n in
+    omega (arith, sumTo-first (λ j. onlyIf (test j) 1 * 2 ^ j) n, mul-one (onlyIf (test 0) 1), doubled)
 
 -- it has the bits of the test
 pub bit-wordOf : (n : ℕ) (test : ℕ → Bool) (j : ℕ) → j < n → bit (wordOf test n) j ≡ test j
 bit-wordOf zero test j h = absurd (not-suc-le-zero h)
 bit-wordOf (suc n) test zero h =
-    ap (λ (y : ℕ). bit y 0) (wordOf-first test n) ∙ bit-low (wordOf (λ j. test (suc j)) n) (when (test 0) 1) (when-lt (test 0)) ∙ digit-of (test 0)
+    ap (λ (y : ℕ). bit y 0) (wordOf-first test n) ∙ bit-low (wordOf (λ j. test (suc j)) n) (onlyIf (test 0) 1) (onlyIf-lt (test 0)) ∙ digit-of (test 0)
 bit-wordOf (suc n) test (suc j) h =
-    ap (λ (y : ℕ). bit y (suc j)) (wordOf-first test n) ∙ bit-high (wordOf (λ j. test (suc j)) n) (when (test 0) 1) j (when-lt (test 0))
+    ap (λ (y : ℕ). bit y (suc j)) (wordOf-first test n) ∙ bit-high (wordOf (λ j. test (suc j)) n) (onlyIf (test 0) 1) j (onlyIf-lt (test 0))
     ∙ bit-wordOf n (λ j. test (suc j)) j (le-of-suc-le-suc h)
 
 -- and is the only word of n bits that has them
@@ -152,10 +152,10 @@ wordOf-is zero x test h e = let z : x ≡ 0 = omega arith in z ∙ sym (wordOf-n
 wordOf-is (suc n) x test h e =
     let rest : x / 2 ≡ wordOf (λ j. test (suc j)) n =
     wordOf-is n (x / 2) (λ j. test (suc j)) (half-lt x n h) (λ j l. sym (bit-suc x j) ∙ e (suc j) (suc-le-suc l)) in
-    let low : x % 2 ≡ when (test 0) 1 = sym (low-bit x) ∙ ap (λ (t : Bool). when t 1) (e 0 (zero-lt-suc n)) in
+    let low : x % 2 ≡ onlyIf (test 0) 1 = sym (low-bit x) ∙ ap (λ (t : Bool). onlyIf t 1) (e 0 (zero-lt-suc n)) in
     sym (div-add-mod' x 2) ∙ ap₂ (λ (y z : ℕ). y * 2 + z) rest low ∙ sym (wordOf-first test n)
 
 pub wordOf-cong : (test test' : ℕ → Bool) (n : ℕ) → ((j : ℕ) → j < n → test j ≡ test' j) → wordOf test n ≡ wordOf test' n
 unfolding wordOf
 wordOf-cong test test' n same =
-    sumTo-cong (λ j. when (test j) 1 * 2 ^ j) (λ j. when (test' j) 1 * 2 ^ j) n (λ j l. ap (λ (t : Bool). when t 1 * 2 ^ j) (same j l))
+    sumTo-cong (λ j. onlyIf (test j) 1 * 2 ^ j) (λ j. onlyIf (test' j) 1 * 2 ^ j) n (λ j l. ap (λ (t : Bool). onlyIf t 1 * 2 ^ j) (same j l))

@@ -4,7 +4,7 @@ use folds::larger;
 ghost use mathlib.Core.Path.{_≡_};
 ghost use Prim.Native.Nat.{_+_, _*_, _≤_, _<_};
 ghost use lib.ListN.{length, getD};
-ghost use Rattle.folds.specs.Folds.{when};
+ghost use Rattle.folds.specs.Folds.{onlyIf};
 ghost use Rattle.folds.specs.Stored.{Stored};
 ghost use Rattle.bitset.specs.Bits.{member};
 ghost use Rattle.bitset.specs.Records.{recordAt, mostCommon};
@@ -33,7 +33,7 @@ pub fn write(buffer: &mut [u64], q: usize, set: [u64; 4])
 // The same where the test holds. The number of the next record.
 pub fn write_if(test: bool, buffer: &mut [u64], q: usize, set: [u64; 4]) -> usize
     requires { ⌜ 4 * q + 3 < length (now buffer) ⌝ }
-    ensures { λ r. ⌜ (r ≡ q + when test 1) × Stored (λ k. getD set k 0) (4 * q) (when test 4) (now (buffer .entry)) (now (buffer .exit)) ⌝ }
+    ensures { λ r. ⌜ (r ≡ q + onlyIf test 1) × Stored (λ k. getD set k 0) (4 * q) (onlyIf test 4) (now (buffer .entry)) (now (buffer .exit)) ⌝ }
 {
     if test {
         write(buffer, q, set);

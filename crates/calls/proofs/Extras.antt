@@ -122,13 +122,13 @@ module _ (n : ℕ) (at : Lfts n → Lft) where
     taken [] a = tt
     taken (x ∷ xs) a = (a .0, taken xs (a .1))
 
-    abbrev pub passed : (xs : List Extra) → Values xs → Given-values xs
-    passed [] e = tt
-    passed (x ∷ xs) e = (e .0, passed xs (e .1))
+    abbrev pub offered : (xs : List Extra) → Values xs → Given-values xs
+    offered [] e = tt
+    offered (x ∷ xs) e = (e .0, offered xs (e .1))
 
-    pub taken-passed : (xs : List Extra) (e : Values xs) → taken xs (passed xs e) ≡ e
-    taken-passed [] e = refl
-    taken-passed (x ∷ xs) e = ap (λ (r : Values xs). (e .0, r)) (taken-passed xs (e .1))
+    pub taken-offered : (xs : List Extra) (e : Values xs) → taken xs (offered xs e) ≡ e
+    taken-offered [] e = refl
+    taken-offered (x ∷ xs) e = ap (λ (r : Values xs). (e .0, r)) (taken-offered xs (e .1))
 
     abbrev pub spells : (xs : List Extra) → Spells (typesAt (slots xs) κs)
     spells [] = tt
@@ -145,17 +145,17 @@ module _ (n : ℕ) (at : Lfts n → Lft) where
     flat-taken [] a = refl
     flat-taken (x ∷ xs) a = ap (λ (vs : List Val). x .machine (a .0) ∷ vs) (flat-taken xs (a .1))
 
-    pub flat-passed : (xs : List Extra) (e : Values xs) → flat (typesAt (slots xs) κs) (spelled xs (passed xs e)) ≡ listed (tys xs) (machines xs e)
-    flat-passed [] e = refl
-    flat-passed (x ∷ xs) e = ap (λ (vs : List Val). x .machine (e .0) ∷ vs) (flat-passed xs (e .1))
+    pub flat-offered : (xs : List Extra) (e : Values xs) → flat (typesAt (slots xs) κs) (spelled xs (offered xs e)) ≡ listed (tys xs) (machines xs e)
+    flat-offered [] e = refl
+    flat-offered (x ∷ xs) e = ap (λ (vs : List Val). x .machine (e .0) ∷ vs) (flat-offered xs (e .1))
 
     pub owns-taken : (xs : List Extra) (a : Given-values xs) → owns (typesAt (slots xs) κs) a (spelled xs a) ≡ owned-all xs (at κs) (taken xs a)
     owns-taken [] a = refl
     owns-taken (x ∷ xs) a = ap (fsep (x .own (at κs) (a .0) (x .machine (a .0) ∷ []))) (owns-taken xs (a .1))
 
-    pub owns-passed : (xs : List Extra) (e : Values xs) → owns (typesAt (slots xs) κs) (passed xs e) (spelled xs (passed xs e)) ≡ owned-all xs (at κs) e
-    owns-passed [] e = refl
-    owns-passed (x ∷ xs) e = ap (fsep (x .own (at κs) (e .0) (x .machine (e .0) ∷ []))) (owns-passed xs (e .1))
+    pub owns-offered : (xs : List Extra) (e : Values xs) → owns (typesAt (slots xs) κs) (offered xs e) (spelled xs (offered xs e)) ≡ owned-all xs (at κs) e
+    owns-offered [] e = refl
+    owns-offered (x ∷ xs) e = ap (fsep (x .own (at κs) (e .0) (x .machine (e .0) ∷ []))) (owns-offered xs (e .1))
 
     pub fitting : (xs : List Extra) (a : Given-values xs) → Are (typesAt (slots xs) κs) (Ises (typesAt (slots xs) κs)) a (spelled xs a) → Fitting (tys xs) (machines xs (taken xs a))
     fitting [] a are = tt

@@ -45,8 +45,8 @@ use Rattle.calls.proofs.Table.{records-table}
 abbrev pub Words : RattleType
 Words = Array u32 256
 
-abbrev pub Sets : RattleType
-Sets = Array u64 256
+abbrev pub SetWords : RattleType
+SetWords = Array u64 256
 
 abbrev pub Fills : {M : Type 1} (𝓤 : URA M) (H : Heap 𝓤) (A : Atoms 𝓤) (at-mem : Memory → SProp 𝓤) (run : Routine → Fun 𝓤) → Contract 𝓤
 Fills 𝓤 H A at-mem run = tripleOf 𝓤 H A fill.signature (fill.spec 𝓤 H A at-mem run)
@@ -74,7 +74,7 @@ module _ {M : Type 1} (𝓤 : URA M) (H : Heap 𝓤) (A : Atoms 𝓤) (at-mem : 
   OwnW = ShrSlice (named 1) κ₁ u32 .own w (val w ∷ [])
 
   abbrev OwnE : Fml
-  OwnE = ShrRef (named 2) κ₂ Sets .own e (pointer e ∷ [])
+  OwnE = ShrRef (named 2) κ₂ SetWords .own e (pointer e ∷ [])
 
   abbrev OwnF : Fml
   OwnF = MutSlice (named 3) κ₃ T.the-row .own f (val f ∷ [])

@@ -81,7 +81,7 @@ use Rattle.calls.proofs.Buffers.{Buffers, size, called, Refs, Lists, li
 use Rattle.calls.proofs.Buffers.{opened, last, all-vals, flat-call, open-fits, temps-fit, tokens, left, tableLft, tableShare, entry-items, enters, exit-items, exits}
 use Rattle.calls.proofs.Work.{working, worked-by, Handed, given, handed, given-handed, Left, seen, work-lfts, work-shares, machine, handed-vals, flat-work, hand-items}
 use Rattle.calls.proofs.Work.{hands, returned, lasted}
-use Rattle.calls.proofs.Filling.{Words, Sets, Fills, Filled, filled, to-fill, goes-fill}
+use Rattle.calls.proofs.Filling.{Words, SetWords, Fills, Filled, filled, to-fill, goes-fill}
 use Rattle.calls.proofs.Frame.{Locals, lendings, lendOperands, on-table, early, late, loads-all, lends-all, loads-lent}
 
 -- both arrays at first
@@ -236,7 +236,7 @@ module _ (S : RattleType) (g : Buffers) (xs : List Extra) (Refuse : List ℕ →
           -- what it leaves, and says of it
           abbrev left-items : Left g → Item 𝓤
           left-items z = left xs 𝓤 g x (z .buffers) ⊛ ‵ (fres γ₁ (usize .coded .code (z .records))) ⊛ ‵ (lastList u32 (lent l₄ zeros γ₂) (z .words)) ⊛ ‵
-              (fres γ₃ (Sets .coded .code (z .sets)))
+              (fres γ₃ (SetWords .coded .code (z .sets)))
 
           abbrev Leaves : Answer → Left g → SProp 𝓤
           Leaves r z = sep 𝓤 (mean 𝓤 H A (left-items z)) (fact 𝓤 (Worked (now b) h r z))
@@ -292,8 +292,8 @@ module _ (S : RattleType) (g : Buffers) (xs : List Extra) (Refuse : List ℕ →
               use0 W (‵ (Words .own zeros (zeroVal w32 ∷ []))) (zero-array 𝓤 H A W w32 256 (lit< tt)) $
               peeks ! Words (Is Words) (shows 𝓤 H A Words) zeros (zeroVal w32 ∷ []) (λ is-w. assigns ! (rep ! 256 (lit ! tt)) (early Z ! 1 (stop !))
               (init ! 30 refl (array-fits 𝓤 H A W w32 256 zeros (zeroVal w32) is-w)) $
-              use0 W (‵ (Sets .own zeros (zeroVal w64 ∷ []))) (zero-array 𝓤 H A W w64 256 (lit< tt)) $
-              peeks ! Sets (Is Sets) (shows 𝓤 H A Sets) zeros (zeroVal w64 ∷ []) (λ is-e. assigns ! (rep ! 256 (lit ! tt)) (early Z ! 2 (stop !))
+              use0 W (‵ (SetWords .own zeros (zeroVal w64 ∷ []))) (zero-array 𝓤 H A W w64 256 (lit< tt)) $
+              peeks ! SetWords (Is SetWords) (shows 𝓤 H A SetWords) zeros (zeroVal w64 ∷ []) (λ is-e. assigns ! (rep ! 256 (lit ! tt)) (early Z ! 2 (stop !))
               (init ! 29 refl (array-fits 𝓤 H A W w64 256 zeros (zeroVal w64) is-e)) $
               move ! (26 ∷ 3 ∷ []) $ lends-all ! g Z x (temps-fit xs g x (fit .0)) $
               assigns ! (of-opd ! (load ! (on-table Z ! (fld ! refl (stop !))) (look-in ! 35 (sub ! 1 refl (whole !))))) (late Z ! 0 (stop !))
@@ -315,10 +315,10 @@ module _ (S : RattleType) (g : Buffers) (xs : List Extra) (Refuse : List ℕ →
               use1 W (later (some (λ (γ : GName). ‵ (MutSlice (named 2) (ν₂ ∷ []) u32 .own (lent l₄ zeros γ) (val (lent l₄ zeros γ) ∷ [])) ⊛ ‵
               (flent (ν₂ ∷ []) (Held u32 256 l₄ 0 γ))))) (lends-slice 𝓤 H A W u32 (named 2) (ν₂ ∷ []) zeros l₄ 0 (has-room zeros refl)) $
               await ! tt $ pick ! (λ γ₂. split ! $
-              move ! (34 ∷ 8 ∷ []) $ use2 W (‵ (partAt Sets fullShare zeros l₅ 0)) (local-in 𝓤 H A W Sets (tyArray (tyInt w64) 256) refl zeros l₅ (zeroVal w64)) $
+              move ! (34 ∷ 8 ∷ []) $ use2 W (‵ (partAt SetWords fullShare zeros l₅ 0)) (local-in 𝓤 H A W SetWords (tyArray (tyInt w64) 256) refl zeros l₅ (zeroVal w64)) $
               lft-new ! tt (λ ν₃. move ! (1 ∷ []) $
-              use1 W (later (some (λ (γ : GName). ‵ (MutRef (named 3) (ν₃ ∷ []) Sets .own (lent l₅ zeros γ) (vptr l₅ 0 ∷ [])) ⊛ ‵
-              (flent (ν₃ ∷ []) (Body (mem Sets) l₅ 0 γ))))) (lends-ref 𝓤 H A W Sets (named 3) (ν₃ ∷ []) zeros l₅ 0) $
+              use1 W (later (some (λ (γ : GName). ‵ (MutRef (named 3) (ν₃ ∷ []) SetWords .own (lent l₅ zeros γ) (vptr l₅ 0 ∷ [])) ⊛ ‵
+              (flent (ν₃ ∷ []) (Body (mem SetWords) l₅ 0 γ))))) (lends-ref 𝓤 H A W SetWords (named 3) (ν₃ ∷ []) zeros l₅ 0) $
               await ! tt $ pick ! (λ γ₃. split ! $
               move ! (48 ∷ []) $ use1 W (‵ OwnB ⊛ ‵ OwnB) (shr-slice-copy 𝓤 H A W (named 0) (κs .0) u32 .twice b (val b ∷ [])) $ split ! $
               move ! (47 ∷ 48 ∷ 10 ∷ 7 ∷ 4 ∷ 0 ∷ 50 ∷ 8 ∷ 5 ∷ 2 ∷ 52 ∷ []) $ group ! 11 $
@@ -350,7 +350,7 @@ module _ (S : RattleType) (g : Buffers) (xs : List Extra) (Refuse : List ℕ →
               split ! $ move ! (1 ∷ []) $ peeks ! usize (Is usize) (shows 𝓤 H A usize) n (vint w64 n ∷ []) (λ is-n. drop ! $
               move ! (1 ∷ []) $ lft-end ! tt $ move ! (0 ∷ 11 ∷ 6 ∷ []) $ use3 W (later (‵ (Arr (mem u32) 256 .lies ws l₄ 0))) (slice-back 𝓤 H A W u32 (ν₂ ∷ []) γ₂ ws 256 l₄ 0) $
               await ! tt $ fsplit ! $ drop ! $ use1 W (‵ (row u32 fullShare ws l₄ 0)) (whole-out 𝓤 H A W u32 ws l₄ 0) $
-              move ! (2 ∷ []) $ lft-end ! tt $ move ! (0 ∷ 9 ∷ 6 ∷ []) $ use3 W (later (‵ (partAt Sets fullShare es l₅ 0))) (ref-back 𝓤 H A W Sets (ν₃ ∷ []) γ₃ es l₅ 0) $ await ! tt $
+              move ! (2 ∷ []) $ lft-end ! tt $ move ! (0 ∷ 9 ∷ 6 ∷ []) $ use3 W (later (‵ (partAt SetWords fullShare es l₅ 0))) (ref-back 𝓤 H A W SetWords (ν₃ ∷ []) γ₃ es l₅ 0) $ await ! tt $
               -- `fill`, the words and the sets being shared for two lifetimes of the call, the words as a slice
               assigns ! (of-opd ! (load ! (early Z ! 0 (stop !)) (look ! 2 refl))) (late Z ! 0 (stop !)) (store ! 31 refl (tt, record { fits = is-n .1 })) $
               assigns ! (addr ! (early Z ! 1 (stop !))) (late Z ! 6 (stop !)) (init ! 19 refl (tt, tt)) $
@@ -367,8 +367,8 @@ module _ (S : RattleType) (g : Buffers) (xs : List Extra) (Refuse : List ℕ →
               (has-room ws len-w)) $
               await ! tt $ pick ! (λ γ₄. split ! $
               rewrite ! 19 (λ (k : ℕ). ‵ (fat fullShare wordsTy l₁₄ 0 (sliceVal (l₄, 0) k))) (sym len-w) refl $ lft-new ! tt (λ ν₅. move ! (4 ∷ []) $
-              use1 W (later (some (λ (γ : GName). ‵ (ShrRef (named 2) (ν₅ ∷ []) Sets .own (lent l₅ es γ) (vptr l₅ 0 ∷ [])) ⊛ ‵
-              (flent (ν₅ ∷ []) (partAt Sets fullShare es l₅ 0))))) (lends-shr 𝓤 H A W Sets (named 2) (ν₅ ∷ []) fullShare es l₅ 0) $
+              use1 W (later (some (λ (γ : GName). ‵ (ShrRef (named 2) (ν₅ ∷ []) SetWords .own (lent l₅ es γ) (vptr l₅ 0 ∷ [])) ⊛ ‵
+              (flent (ν₅ ∷ []) (partAt SetWords fullShare es l₅ 0))))) (lends-shr 𝓤 H A W SetWords (named 2) (ν₅ ∷ []) fullShare es l₅ 0) $
               await ! tt $ pick ! (λ γ₅. split ! $
               move ! (8 ∷ 5 ∷ 2 ∷ 48 ∷ 11 ∷ 3 ∷ 0 ∷ 49 ∷ []) $ group ! 8 $
               use1 W (raw (Fills 𝓤 H A at-mem run .pre (to-fill 𝓤 H A at-mem run (κs .0) (ν₄ ∷ []) (ν₅ ∷ []) (tableLft xs g κs) (qs .0) fullShare fullShare
@@ -399,8 +399,8 @@ module _ (S : RattleType) (g : Buffers) (xs : List Extra) (Refuse : List ℕ →
               (local-out 𝓤 H A W Words (tyArray (tyInt w32) 256) refl ws l₄ (only-val w32) (array-tells (UInt w32) (uint-vals w32) (uint-tells w32) 256)) $
               split ! $ move ! (1 ∷ []) $ drop ! $
               move ! (2 ∷ []) $ lft-end ! tt $ move ! (0 ∷ 5 ∷ []) $ lent-back ! tt $
-              use1 W (‵ (fat fullShare (tyArray (tyInt w64) 256) l₅ 0 (only-val w64 es)) ⊛ ‵ (Sets .own es (only-val w64 es ∷ [])))
-              (local-out 𝓤 H A W Sets (tyArray (tyInt w64) 256) refl es l₅ (only-val w64) (array-tells (UInt w64) (uint-vals w64) (uint-tells w64) 256)) $
+              use1 W (‵ (fat fullShare (tyArray (tyInt w64) 256) l₅ 0 (only-val w64 es)) ⊛ ‵ (SetWords .own es (only-val w64 es ∷ [])))
+              (local-out 𝓤 H A W SetWords (tyArray (tyInt w64) 256) refl es l₅ (only-val w64) (array-tells (UInt w64) (uint-vals w64) (uint-tells w64) 256)) $
               split ! $ move ! (1 ∷ []) $ drop ! $
               assigns ! (of-opd ! (load ! (early Z ! 3 (stop !)) (look ! 34 refl))) (from ! (stop !)) (init ! 43 refl (typed r u₁ is₁)) $
               returns ! (look ! 43 refl) $ forget ! 12 refl $ forget ! 14 refl $ forget ! 16 refl $ forget ! 18 refl $ forget ! 20 refl $ forget ! 22 refl $ forget ! 24 refl $

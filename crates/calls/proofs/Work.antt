@@ -33,8 +33,8 @@ use denote.Triple.Entry.{Vals as Machine, alive, onEntry}
 use denote.Triple.End.{Kepts}
 use Rattle.calls.proofs.Steps.{val, pointer}
 use Rattle.calls.proofs.Cells.{listed}
-use Rattle.calls.proofs.Extras.{Extra, Values, tys, machines, owned-all, slots, keeps, taken, passed, taken-passed, spells, flat-passed, owns-passed}
-use Rattle.calls.proofs.Filling.{Sets}
+use Rattle.calls.proofs.Extras.{Extra, Values, tys, machines, owned-all, slots, keeps, taken, offered, taken-offered, spells, flat-offered, owns-offered}
+use Rattle.calls.proofs.Filling.{SetWords}
 use Rattle.calls.proofs.Buffers.{Buffers, none, both, size, called, Refs, Lists, argVals, lastList, first, tokens, owned, left}
 
 -- its lifetimes: the board's, the buffers', and those of the count, the words and the sets
@@ -92,16 +92,16 @@ module _ (xs : List Extra) where
   }
 
   abbrev pub handed : (g : Buffers) (κs : Lfts (working g)) → Handed g xs → Denots (typesAt (work-rest g) κs)
-  handed none κs h = (h .room, (h .records, (h .words, (h .sets, passed 4 (first 3) κs xs (h .extras)))))
+  handed none κs h = (h .room, (h .records, (h .words, (h .sets, offered 4 (first 3) κs xs (h .extras)))))
   handed both κs h =
-      (h .buffers .0, (h .buffers .1, (h .room, (h .records, (h .words, (h .sets, passed 6 (first 5) κs xs (h .extras)))))))
+      (h .buffers .0, (h .buffers .1, (h .room, (h .records, (h .words, (h .sets, offered 6 (first 5) κs xs (h .extras)))))))
 
   abbrev swapped : (g : Buffers) → Handed g xs → Values xs → Handed g xs
   swapped g h e = record { buffers = h .buffers; room = h .room; records = h .records; words = h .words; sets = h .sets; extras = e }
 
   pub given-handed : (g : Buffers) (κs : Lfts (working g)) (h : Handed g xs) → given g κs (handed g κs h) ≡ h
-  given-handed none κs h = ap (swapped none h) (taken-passed 4 (first 3) κs xs (h .extras))
-  given-handed both κs h = ap (swapped both h) (taken-passed 6 (first 5) κs xs (h .extras))
+  given-handed none κs h = ap (swapped none h) (taken-offered 4 (first 3) κs xs (h .extras))
+  given-handed both κs h = ap (swapped both h) (taken-offered 6 (first 5) κs xs (h .extras))
 
   -- what it leaves
   abbrev pub seen : (g : Buffers) (S : RattleType) (κs : Lfts (working g)) → AtExit (worked-by g S) κs → Left g
@@ -137,10 +137,10 @@ module _ (xs : List Extra) where
   rest-flat : (g : Buffers) (κs : Lfts (working g)) (h : Handed g xs) → flat (typesAt (work-rest g) κs)
       (valss (typesAt (work-rest g) κs) (work-spells g κs) (handed g κs h)) ≡ handed-vals g h
   rest-flat none κs h =
-      ap (λ (vs : List Val). vint w64 (h .room) ∷ pointer (h .records) ∷ val (h .words) ∷ pointer (h .sets) ∷ vs) (flat-passed 4 (first 3) κs xs (h .extras))
+      ap (λ (vs : List Val). vint w64 (h .room) ∷ pointer (h .records) ∷ val (h .words) ∷ pointer (h .sets) ∷ vs) (flat-offered 4 (first 3) κs xs (h .extras))
   rest-flat both κs h =
       ap (λ (vs : List Val). val (h .buffers .0) ∷ val (h .buffers .1) ∷ vint w64 (h .room) ∷ pointer (h .records) ∷ val (h .words) ∷ pointer (h .sets) ∷ vs)
-      (flat-passed 6 (first 5) κs xs (h .extras))
+      (flat-offered 6 (first 5) κs xs (h .extras))
 
   pub flat-work : (g : Buffers) (S : RattleType) (κs : Lfts (working g)) (b : RefT (List ℕ)) (h : Handed g xs)
       → flat (typesAt (worked-by g S .signature .params) κs) (machine g S κs b h) ≡ val b ∷ handed-vals g h
@@ -154,7 +154,7 @@ module _ (xs : List Extra) where
         ‵ (flft (κs .0) (qs .0)) ∷ tokens xs 𝓤 g κs qs ∷ ‵ (flft (ν₁ ∷ []) fullShare) ∷ ‵ (flft (ν₂ ∷ []) fullShare) ∷ ‵ (flft (ν₃ ∷ []) fullShare) ∷ ‵
         (ShrSlice (named 0) (κs .0) u32 .own b (val b ∷ [])) ∷ owned xs 𝓤 g κs (h .buffers)
         ∷ ‵ (MutRef (named 1) (ν₁ ∷ []) usize .own (h .records) (pointer (h .records) ∷ [])) ∷ ‵ (MutSlice (named 2) (ν₂ ∷ []) u32 .own (h .words) (val (h .words) ∷ []))
-        ∷ ‵ (MutRef (named 3) (ν₃ ∷ []) Sets .own (h .sets) (pointer (h .sets) ∷ [])) ∷ ‵ (owned-all xs (κs .0) (h .extras)) ∷ []
+        ∷ ‵ (MutRef (named 3) (ν₃ ∷ []) SetWords .own (h .sets) (pointer (h .sets) ∷ [])) ∷ ‵ (owned-all xs (κs .0) (h .extras)) ∷ []
 
     pub hands : (g : Buffers) (κs : Lfts (called g)) (qs : Shares (called g)) (ν₁ ν₂ ν₃ : ℕ) (b : RefT (List ℕ)) (h : Handed g xs) → h .room < 2 ^ bits w64
         → let κw = work-lfts g κs ν₁ ν₂ ν₃ in
@@ -162,13 +162,13 @@ module _ (xs : List Extra) where
     hands none κs qs ν₁ ν₂ ν₃ b h fits =
         qed W (hand-items none κs qs ν₁ ν₂ ν₃ b h) ∵
         use0 W (‵ ftrue) (id⊢ 𝓤 _) $ move ! (1 ∷ 3 ∷ 4 ∷ 5 ∷ 0 ∷ []) $ group ! 5 $ frame ! $ move ! (6 ∷ []) $
-        rewrite ! 0 (λ (P : Fml). ‵ P) (sym (owns-passed 4 (first 3) (work-lfts none κs ν₁ ν₂ ν₃) xs (h .extras))) refl $ move ! (6 ∷ 0 ∷ []) $ fjoin ! $
+        rewrite ! 0 (λ (P : Fml). ‵ P) (sym (owns-offered 4 (first 3) (work-lfts none κs ν₁ ν₂ ν₃) xs (h .extras))) refl $ move ! (6 ∷ 0 ∷ []) $ fjoin ! $
         move ! (5 ∷ 0 ∷ []) $ fjoin ! $ move ! (4 ∷ 0 ∷ []) $ fjoin ! $ made ! usize (Is usize) (uint-makes 𝓤 H A W w64) (h .room) _ (refl, fits) $ fjoin ! $
         move ! (2 ∷ 0 ∷ []) $ fjoin ! $ keep ! (0 ∷ []) $ done !
     hands both κs qs ν₁ ν₂ ν₃ b h fits =
         qed W (hand-items both κs qs ν₁ ν₂ ν₃ b h) ∵
         move ! (1 ∷ []) $ split ! $ move ! (7 ∷ []) $ split ! $ use0 W (‵ ftrue) (id⊢ 𝓤 _) $ move ! (5 ∷ 3 ∷ 4 ∷ 6 ∷ 7 ∷ 8 ∷ 0 ∷ []) $ group ! 7 $ frame ! $ move ! (6 ∷ []) $
-        rewrite ! 0 (λ (P : Fml). ‵ P) (sym (owns-passed 6 (first 5) (work-lfts both κs ν₁ ν₂ ν₃) xs (h .extras))) refl $ move ! (6 ∷ 0 ∷ []) $ fjoin ! $
+        rewrite ! 0 (λ (P : Fml). ‵ P) (sym (owns-offered 6 (first 5) (work-lfts both κs ν₁ ν₂ ν₃) xs (h .extras))) refl $ move ! (6 ∷ 0 ∷ []) $ fjoin ! $
         move ! (5 ∷ 0 ∷ []) $ fjoin ! $ move ! (4 ∷ 0 ∷ []) $ fjoin ! $ made ! usize (Is usize) (uint-makes 𝓤 H A W w64) (h .room) _ (refl, fits) $ fjoin ! $
         move ! (2 ∷ 0 ∷ []) $ fjoin ! $ move ! (1 ∷ 0 ∷ []) $ fjoin ! $ move ! (1 ∷ 0 ∷ []) $ fjoin ! $ keep ! (0 ∷ []) $ done !
 
@@ -188,7 +188,7 @@ module _ (xs : List Extra) where
         (zs : Lasts (worked-by g S) κw (b, handed g κw h)) → let z = seen g S κw (atExit (worked-by g S) κw (b, handed g κw h) zs) in
         ent 𝓤 (sem 𝓤 H A (lasts (worked-by g S) κw (b, handed g κw h) zs))
         (⋆ 𝓤 H A (left xs 𝓤 g (h .buffers) (z .buffers) ∷ ‵ (fres (h .records .name) (usize .coded .code (z .records))) ∷ ‵ (lastList u32 (h .words) (z .words)) ∷ ‵
-        (fres (h .sets .name) (Sets .coded .code (z .sets))) ∷ []))
+        (fres (h .sets .name) (SetWords .coded .code (z .sets))) ∷ []))
     lasted none κs ν₁ ν₂ ν₃ b h zs =
         qed W (‵ (lasts (worked-by none S) (work-lfts none κs ν₁ ν₂ ν₃) (b, handed none (work-lfts none κs ν₁ ν₂ ν₃) h) zs) ∷ []) ∵
         fsplit ! $ drop ! $ fsplit ! $ drop ! $ fsplit ! $ move ! (1 ∷ []) $ fsplit ! $ move ! (1 ∷ []) $ fsplit ! $ move ! (1 ∷ []) $ drop ! $ use0 W (‵ ftrue) (id⊢ 𝓤 _) $

@@ -3,7 +3,7 @@
 use replies::reply::of_answer;
 use replies::reply::of_outcome;
 use replies::table::RECORD_WORDS;
-use replies::table::fill;
+use replies::table::fill_words;
 ghost use mathlib.Core.Path.{_≡_};
 ghost use Prim.Native.Nat.{_/_};
 ghost use lib.ListN.{length};
@@ -37,7 +37,7 @@ pub extern "C" fn zuzgravel_figures(
         &mut words,
         &mut sets,
     );
-    fill(board, n, &words, &sets, records);
+    fill_words(board, n, &words, &sets, records);
     of_outcome(outcome, answer)
 }
 
@@ -102,6 +102,6 @@ pub extern "C" fn zuzgravel_analyse(
     let mut sets = [0u64; 256];
     let room = records.len() / RECORD_WORDS;
     let found = call_work::analyse(board, times, scratch, room, &mut n, &mut words, &mut sets);
-    fill(board, n, &words, &sets, records);
+    fill_words(board, n, &words, &sets, records);
     of_answer(found, answer)
 }

@@ -7,8 +7,8 @@ use native.Mathlib.Nat.{mul-le-mul, le-refl}
 use native.Mathlib.Omega.{arith}
 use lib.Dec.{eqb, leb}
 use lib.ListN.{getD}
-use Rattle.folds.specs.Folds.{when, sumTo, sumWhere}
-use Rattle.folds.proofs.Numbers.{when-bound}
+use Rattle.folds.specs.Folds.{onlyIf, sumTo, sumWhere}
+use Rattle.folds.proofs.Numbers.{onlyIf-bound}
 use Rattle.folds.proofs.Folds.{sumTo-bound}
 use Rattle.board.specs.Layout.{mostTasks, tasks, core}
 use Rattle.sums.specs.Sums.{carryIn}
@@ -30,9 +30,9 @@ module _ (b row R : List ℕ) (j t : ℕ) (h : RowInput b row R j) (early : t �
   carriedIf-bound test a m few = some-bound (λ k. leb a k && test (core b k)) (λ k. carryIn b R t j k) m few carry
 
   pub carriedOff-bound : (x k : ℕ) → k < tasks b → carriedOff b R t x j k ≤ mostCarryIn
-  carriedOff-bound x k l = when-bound (not (eqb (core b k) x)) (carry k l)
+  carriedOff-bound x k l = onlyIf-bound (not (eqb (core b k) x)) (carry k l)
 
-  pub onCore-bound : (x y m : ℕ) → m ≤ j + 1 → sumTo (λ k. when (eqb (core b k) y) (carriedOff b R t x j k)) m ≤ mostAccesses
+  pub onCore-bound : (x y m : ℕ) → m ≤ j + 1 → sumTo (λ k. onlyIf (eqb (core b k) y) (carriedOff b R t x j k)) m ≤ mostAccesses
   onCore-bound x y m few = some-bound (λ k. eqb (core b k) y) (carriedOff b R t x j) m few (carriedOff-bound x)
 
   pub carriedFrom-bound : (x y : ℕ) → carriedFrom b R t x j y ≤ mostAccesses

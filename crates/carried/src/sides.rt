@@ -4,7 +4,7 @@ use sums::carry::carry_in;
 ghost use mathlib.Core.Path.{_≡_};
 ghost use Prim.Native.Nat.{_+_, _<_, _≤_};
 ghost use lib.Dec.{ltb};
-ghost use Rattle.folds.specs.Folds.{when};
+ghost use Rattle.folds.specs.Folds.{onlyIf};
 ghost use Rattle.board.specs.Layout as at;
 ghost use Rattle.sums.specs.Sums.{carryIn};
 ghost use Rattle.sums.specs.Limits.{latestTime, mostAccesses};
@@ -31,9 +31,9 @@ fn with_task(
     requires { ⌜ RowInput (now board) (now row) (now times) j × (t ≤ latestTime) × (k < at.tasks (now board)) ⌝ }
     requires { ⌜ (sums .before ≤ mostAccesses) × (sums .after ≤ mostAccesses) ⌝ }
     ensures { λ r. ⌜ r .before ≡ sums .before
-        + when (ltb (at.core (now (board .entry)) k) x) (carryIn (now (board .entry)) (now (times .entry)) t j k) ⌝ }
+        + onlyIf (ltb (at.core (now (board .entry)) k) x) (carryIn (now (board .entry)) (now (times .entry)) t j k) ⌝ }
     ensures { λ r. ⌜ r .after ≡ sums .after
-        + when (ltb x (at.core (now (board .entry)) k)) (carryIn (now (board .entry)) (now (times .entry)) t j k) ⌝ }
+        + onlyIf (ltb x (at.core (now (board .entry)) k)) (carryIn (now (board .entry)) (now (times .entry)) t j k) ⌝ }
 {
     let y = core(board, k);
     if y == x {

@@ -8,7 +8,7 @@ use Rattle.board.specs.Sound.{Between, Sound}
 use Rattle.refusals.specs.Refusals.{refusalOf}
 use Rattle.refusals.specs.declared.Verdict.{Verdict}
 use Rattle.refusals.specs.declared.Verdict.the-variants.{Passed}
-use Rattle.sums.specs.Inputs.{Times}
+use Rattle.sums.specs.Inputs.{CappedTimes}
 
 -- the verdict of a board's own rows, with its tasks where it passes, and 0 where not
 pub record Judged (b : List ℕ) (v : Verdict) (n : ℕ) : Type 0 where
@@ -29,7 +29,7 @@ pub record OverheadTaken (b : List ℕ) (i j : ℕ) : Type 0 where
 pub record WeighTaken (b R : List ℕ) (i : ℕ) : Type 0 where
   pub sound : Sound b
   pub task : Between 1 (at.tasks b) i
-  pub times : Times b R
+  pub times : CappedTimes b R
 
 -- the board passes, and the buffers of words are long enough
 pub record Analysable (b : List ℕ) (times scratch : ℕ) : Type 0 where

@@ -8,7 +8,7 @@ use native.Mathlib.Nat.{le-refl, mul-le-mul-right, add-mul, one-mul}
 use native.Mathlib.Omega.{arith}
 use lib.Dec.{eqb}
 use lib.ListN.{getD, set}
-use Rattle.folds.specs.Folds.{when, fillTo}
+use Rattle.folds.specs.Folds.{onlyIf, fillTo}
 use Rattle.folds.proofs.Lists.{fillTo-from, fillTo-is}
 use Rattle.folds.proofs.Loops.{fillTo-turn}
 use Rattle.board.specs.Layout.{core}
@@ -24,9 +24,9 @@ fillTo-same f xs n same = sym (fillTo-is f xs 0 n xs refl (λ k l w. sym (same k
 
 -- ---- a row that is raised
 
-pub when-zero : (test : Bool) (x : ℕ) → x ≡ 0 → when test x ≡ 0
-when-zero true x e = e
-when-zero false x e = refl
+pub onlyIf-zero : (test : Bool) (x : ℕ) → x ≡ 0 → onlyIf test x ≡ 0
+onlyIf-zero true x e = e
+onlyIf-zero false x e = refl
 
 pub raised-none : (f : ℕ → ℕ) (i : ℕ) (row : List ℕ) → ((j : ℕ) → f j ≡ 0) → row ≡ raised f i row
 raised-none f i row none = sym (fillTo-same _ row i (λ j h. omega (arith, none j)))
@@ -34,7 +34,7 @@ raised-none f i row none = sym (fillTo-same _ row i (λ j h. omega (arith, none 
 -- by no records
 pub common-none : (b : List ℕ) (i : ℕ) (lives : List ℕ) (m : ℕ) (row : List ℕ) → m ≡ 0 → row ≡ raised (onCoreOf b i (λ j. mostCommon lives m (evictedBy b j))) i row
 common-none b i lives m row none =
-    raised-none _ i row (λ j. when-zero (eqb (core b i) (core b j)) _ (ap (λ (k : ℕ). mostCommon lives k (evictedBy b j)) none ∙ mostCommon-none lives _))
+    raised-none _ i row (λ j. onlyIf-zero (eqb (core b i) (core b j)) _ (ap (λ (k : ℕ). mostCommon lives k (evictedBy b j)) none ∙ mostCommon-none lives _))
 
 -- one word more
 pub raised-turn : (f : ℕ → ℕ) (row : List ℕ) (j : ℕ) {out : List ℕ} {v x : ℕ} → out ≡ raised f j row → x ≡ f j → v ≡ max (getD out j 0) x

@@ -6,7 +6,7 @@ use mathlib.Core.List.{List}
 use mathlib.Core.Path.{_≡_}
 use lib.Dec.{eqb}
 use lib.ListN.{getD}
-use Rattle.folds.specs.Folds.{when, anyTo, fillTo}
+use Rattle.folds.specs.Folds.{onlyIf, anyTo, fillTo}
 use Rattle.bitset.specs.Bits.{wordsOf}
 use Rattle.bitset.specs.Records.{recordAt}
 use Rattle.board.specs.Layout.{core}
@@ -31,7 +31,7 @@ Cores b j sets = (x : ℕ) → x ≤ 8 → recordAt sets x ≡ wordsOf (λ s. an
 
 -- f j for each task j on the core of task i, and 0 for the others
 abbrev pub onCoreOf : List ℕ → ℕ → (ℕ → ℕ) → ℕ → ℕ
-onCoreOf b i f j = when (eqb (core b i) (core b j)) (f j)
+onCoreOf b i f j = onlyIf (eqb (core b i) (core b j)) (f j)
 
 -- the first i words of a row, each raised to f j where that is larger
 abbrev pub raised : (ℕ → ℕ) → ℕ → List ℕ → List ℕ

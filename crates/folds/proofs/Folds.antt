@@ -7,8 +7,8 @@ use mathlib.Core.Path.{_≡_, refl, sym, ap, ap₂, _∙_}
 use native.Mathlib.Nat.{le-trans, eq-or-lt-of-le, le-of-suc-le-suc, not-suc-le-zero, suc-mul, add-mul, zero-mul, mul-one, add-zero, add-suc, add-assoc}
 use native.Mathlib.Numerals.{add-one}
 use native.Mathlib.Omega.{arith}
-use Rattle.folds.specs.Folds.{when, sumTo, sumWhere, maxTo, countTo, anyTo}
-use Rattle.folds.proofs.Numbers.{below-suc, when-bound}
+use Rattle.folds.specs.Folds.{onlyIf, sumTo, sumWhere, maxTo, countTo, anyTo}
+use Rattle.folds.proofs.Numbers.{below-suc, onlyIf-bound}
 
 -- ---- `sumTo`
 
@@ -108,9 +108,9 @@ sumTo-least f (suc n) all = omega (arith, sumTo-least f n (λ k h. all k (omega 
 pub sumTo-one : (f : ℕ → ℕ) (n s : ℕ) → s < n → ((k : ℕ) → k < n → (k ≡ s → ⊥) → f k ≡ 0) → sumTo f n ≡ f s
 sumTo-one f n s l none = omega (arith, sumTo-but f (λ _. 0) n s l none, sumTo-zero (λ _. 0) n (λ k h. refl))
 
-pub when-sum : (test : Bool) (f : ℕ → ℕ) (n : ℕ) → when test (sumTo f n) ≡ sumTo (λ k. when test (f k)) n
-when-sum true f n = refl
-when-sum false f n = sym (sumTo-zero (λ _. 0) n (λ k h. refl))
+pub onlyIf-sum : (test : Bool) (f : ℕ → ℕ) (n : ℕ) → onlyIf test (sumTo f n) ≡ sumTo (λ k. onlyIf test (f k)) n
+onlyIf-sum true f n = refl
+onlyIf-sum false f n = sym (sumTo-zero (λ _. 0) n (λ k h. refl))
 
 -- ---- `sumWhere`
 
@@ -118,14 +118,14 @@ when-sum false f n = sym (sumTo-zero (λ _. 0) n (λ k h. refl))
 pub sumWhere-rise : (test test' : ℕ → Bool) (f g : ℕ → ℕ) (n m : ℕ) → n ≤ m
     → ((k : ℕ) → k < n → test k ≡ true → (test' k ≡ true) × (f k ≤ g k)) → sumWhere test f n ≤ sumWhere test' g m
 sumWhere-rise test test' f g n m h all =
-    le-trans (sumTo-mono _ _ n (λ k l. go (test k) (test' k) (all k l))) (sumTo-prefix (λ k. when (test' k) (g k)) n m h)
+    le-trans (sumTo-mono _ _ n (λ k l. go (test k) (test' k) (all k l))) (sumTo-prefix (λ k. onlyIf (test' k) (g k)) n m h)
   where
-    go : {x y : ℕ} (t t' : Bool) → (t ≡ true → (t' ≡ true) × (x ≤ y)) → when t x ≤ when t' y
+    go : {x y : ℕ} (t t' : Bool) → (t ≡ true → (t' ≡ true) × (x ≤ y)) → onlyIf t x ≤ onlyIf t' y
     go true t' rise = rw (rise refl .0) (rise refl .1)
     go false t' rise = zero-le
 
 pub sumWhere-bound : (test : ℕ → Bool) (f : ℕ → ℕ) (n m : ℕ) → ((k : ℕ) → k < n → f k ≤ m) → sumWhere test f n ≤ n * m
-sumWhere-bound test f n m all = sumTo-bound _ n m (λ k h. when-bound (test k) (all k h))
+sumWhere-bound test f n m all = sumTo-bound _ n m (λ k h. onlyIf-bound (test k) (all k h))
 
 -- ---- `maxTo`
 
@@ -169,40 +169,40 @@ none-or-some test (suc n) = go (test n) refl (none-or-some test n)
 
 pub countTo-none : (test : ℕ → Bool) → countTo test 0 ≡ 0
 unfolding countTo
-countTo-none test = sumTo-none (λ k. when (test k) 1)
+countTo-none test = sumTo-none (λ k. onlyIf (test k) 1)
 
-pub countTo-next : (test : ℕ → Bool) (n : ℕ) → countTo test (n + 1) ≡ countTo test n + when (test n) 1
+pub countTo-next : (test : ℕ → Bool) (n : ℕ) → countTo test (n + 1) ≡ countTo test n + onlyIf (test n) 1
 unfolding countTo
-countTo-next test n = sumTo-next (λ k. when (test k) 1) n
+countTo-next test n = sumTo-next (λ k. onlyIf (test k) 1) n
 
 pub countTo-cong : (test test' : ℕ → Bool) (n : ℕ) → ((k : ℕ) → k < n → test k ≡ test' k) → countTo test n ≡ countTo test' n
 unfolding countTo
-countTo-cong test test' n all = sumTo-cong _ _ n (λ k h. ap (λ t. when t 1) (all k h))
+countTo-cong test test' n all = sumTo-cong _ _ n (λ k h. ap (λ t. onlyIf t 1) (all k h))
 
 -- a test that passes more
 pub countTo-subset : (test test' : ℕ → Bool) (n : ℕ) → ((k : ℕ) → k < n → test k ≡ true → test' k ≡ true) → countTo test n ≤ countTo test' n
 unfolding countTo
 countTo-subset test test' n all = sumTo-mono _ _ n (λ k h. go (test k) (test' k) (all k h))
   where
-    go : (t t' : Bool) → (t ≡ true → t' ≡ true) → when t 1 ≤ when t' 1
+    go : (t t' : Bool) → (t ≡ true → t' ≡ true) → onlyIf t 1 ≤ onlyIf t' 1
     go true t' f = rw (f refl) (omega arith)
     go false t' f = zero-le
 
 pub countTo-bound : (test : ℕ → Bool) (n : ℕ) → countTo test n ≤ n
 unfolding countTo
-countTo-bound test n = omega (arith, mul-one n, sumTo-bound (λ k. when (test k) 1) n 1 (λ k h. when-bound (test k) (omega arith)))
+countTo-bound test n = omega (arith, mul-one n, sumTo-bound (λ k. onlyIf (test k) 1) n 1 (λ k h. onlyIf-bound (test k) (omega arith)))
 
 pub countTo-split : (p : ℕ → Bool) (n m : ℕ) → countTo p (n + m) ≡ countTo p n + countTo (λ k. p (n + k)) m
 unfolding countTo
-countTo-split p n m = sumTo-split (λ k. when (p k) 1) n m
+countTo-split p n m = sumTo-split (λ k. onlyIf (p k) 1) n m
 
 pub countTo-zero : (test : ℕ → Bool) (n : ℕ) → ((k : ℕ) → k < n → test k ≡ false) → countTo test n ≡ 0
 unfolding countTo
-countTo-zero test n never = sumTo-zero (λ k. when (test k) 1) n (λ k h. ap (λ t. when t 1) (never k h))
+countTo-zero test n never = sumTo-zero (λ k. onlyIf (test k) 1) n (λ k h. ap (λ t. onlyIf t 1) (never k h))
 
-pub countTo-first : (test : ℕ → Bool) (n : ℕ) → countTo test (suc n) ≡ when (test 0) 1 + countTo (λ k. test (suc k)) n
+pub countTo-first : (test : ℕ → Bool) (n : ℕ) → countTo test (suc n) ≡ onlyIf (test 0) 1 + countTo (λ k. test (suc k)) n
 unfolding countTo
-countTo-first test n = sumTo-first (λ k. when (test k) 1) n
+countTo-first test n = sumTo-first (λ k. onlyIf (test k) 1) n
 
 -- ---- `anyTo`
 

@@ -8,36 +8,36 @@ use native.Mathlib.Nat.{mul-one}
 use native.Mathlib.Omega.{arith}
 use lib.Dec.{eqb}
 use borrow.Author.Tests.{eqb-true, eq-eqb}
-use Rattle.folds.specs.Folds.{when, sumTo, countTo}
+use Rattle.folds.specs.Folds.{onlyIf, sumTo, countTo}
 use Rattle.folds.proofs.Folds.{sumTo-bound, sumTo-below, sumTo-tight, sumTo-swap, sumTo-least, none-or-some, countTo-none, countTo-next, countTo-zero}
 
 module _ (f : ℕ → ℕ) (n : ℕ) (within : (k : ℕ) → k < n → f k < n) (differ : (j k : ℕ) → j < k → k < n → f j ≡ f k → ⊥) where
   -- the places of the value i
   abbrev hit : ℕ → ℕ → ℕ
-  hit i k = when (eqb (f k) i) 1
+  hit i k = onlyIf (eqb (f k) i) 1
 
   -- at most one
   once : (i m : ℕ) → m ≤ n → countTo (λ k. eqb (f k) i) m ≤ 1
   once i zero h = omega (arith, countTo-none (λ k. eqb (f k) i))
   once i (suc m) h = go (once i m (omega arith)) (eqb (f m) i) refl
     where
-      next : countTo (λ k. eqb (f k) i) (suc m) ≡ countTo (λ k. eqb (f k) i) m + when (eqb (f m) i) 1
+      next : countTo (λ k. eqb (f k) i) (suc m) ≡ countTo (λ k. eqb (f k) i) m + onlyIf (eqb (f m) i) 1
       next = ap (countTo (λ k. eqb (f k) i)) (omega arith) ∙ countTo-next (λ k. eqb (f k) i) m
 
       go : countTo (λ k. eqb (f k) i) m ≤ 1 → (t : Bool) → eqb (f m) i ≡ t → countTo (λ k. eqb (f k) i) (suc m) ≤ 1
       go before true e =
           let none : countTo (λ k. eqb (f k) i) m ≡ 0 = countTo-zero (λ k. eqb (f k) i) m (λ j l. other j l (eqb (f j) i) refl) in
-          omega (arith, next, ap (λ (t : Bool). when t 1) e)
+          omega (arith, next, ap (λ (t : Bool). onlyIf t 1) e)
         where
           other : (j : ℕ) → j < m → (t : Bool) → eqb (f j) i ≡ t → t ≡ false
           other j l true q = absurd (differ j m l (omega arith) (eqb-true (f j) i q ∙ sym (eqb-true (f m) i e)))
           other j l false q = refl
-      go before false e = omega (arith, next, before, ap (λ (t : Bool). when t 1) e)
+      go before false e = omega (arith, next, before, ap (λ (t : Bool). onlyIf t 1) e)
 
   -- each place counts for a value
   some : (k : ℕ) → k < n → 1 ≤ sumTo (λ i. hit i k) n
   some k h =
-      let here : hit (f k) k ≡ 1 = ap (λ (t : Bool). when t 1) (eq-eqb (f k) (f k) refl) in
+      let here : hit (f k) k ≡ 1 = ap (λ (t : Bool). onlyIf t 1) (eq-eqb (f k) (f k) refl) in
       omega (arith, sumTo-below (λ i. hit i k) (f k) n (within k h))
 
   pub all-named : (i : ℕ) → i < n → (k : ℕ) × (k < n) × (f k ≡ i)

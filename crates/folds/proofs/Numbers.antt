@@ -9,7 +9,7 @@ use native.Mathlib.Nat.{le-refl, mul-le-mul, zero-mul, le-trans, le-of-suc-le-su
 use native.Mathlib.Omega.{arith}
 use lib.Dec.{eqb}
 use borrow.Author.Tests.{eq-eqb, ne-eqb}
-use Rattle.folds.specs.Folds.{ceilDiv, when}
+use Rattle.folds.specs.Folds.{ceilDiv, onlyIf}
 
 pub le-or-lt : (a b : ℕ) → (a ≤ b) ⊎ (b < a)
 le-or-lt a b = elim (decLe a b) [ yes h ↦ inl h | no h ↦ inr (lt-of-not-le h) ]
@@ -89,16 +89,16 @@ ceilDiv-once a b p h = omega (arith, ceilDiv-self a b, ceilDiv-least {a = a} {k 
     some zero h = omega (arith, zero-mul b)
     some (suc k) h = omega arith
 
--- ---- Laws of `when`
+-- ---- Laws of `onlyIf`
 
-pub when-mono : (test : Bool) {a b : ℕ} → (test ≡ true → a ≤ b) → when test a ≤ when test b
-when-mono true h = h refl
-when-mono false h = zero-le
+pub onlyIf-mono : (test : Bool) {a b : ℕ} → (test ≡ true → a ≤ b) → onlyIf test a ≤ onlyIf test b
+onlyIf-mono true h = h refl
+onlyIf-mono false h = zero-le
 
-pub when-bound : (test : Bool) {a m : ℕ} → a ≤ m → when test a ≤ m
-when-bound true h = h
-when-bound false h = zero-le
+pub onlyIf-bound : (test : Bool) {a m : ℕ} → a ≤ m → onlyIf test a ≤ m
+onlyIf-bound true h = h
+onlyIf-bound false h = zero-le
 
-pub when-and : (a b : Bool) (x : ℕ) → when (a && b) x ≡ when a (when b x)
-when-and true b x = refl
-when-and false b x = refl
+pub onlyIf-and : (a b : Bool) (x : ℕ) → onlyIf (a && b) x ≡ onlyIf a (onlyIf b x)
+onlyIf-and true b x = refl
+onlyIf-and false b x = refl

@@ -3,7 +3,7 @@ pub mod words;
 
 ghost use mathlib.Core.Path.{_≡_};
 ghost use Prim.Native.Nat.{_+_, _-_, _/_, _<_, _≤_, _^_, max, min};
-ghost use Rattle.folds.specs.Folds.{ceilDiv, when};
+ghost use Rattle.folds.specs.Folds.{ceilDiv, onlyIf};
 
 // A word as a 64-bit number.
 pub fn wide(x: u32) -> u64
@@ -21,7 +21,7 @@ pub fn index(x: u32) -> usize
 
 // 1 where the test holds, and 0 where not.
 pub fn one_if(test: bool) -> u32
-    ensures { λ r. ⌜ (r ≡ when test 1) × (r ≤ 1) ⌝ }
+    ensures { λ r. ⌜ (r ≡ onlyIf test 1) × (r ≤ 1) ⌝ }
 {
     if test { 1 } else { 0 }
 }

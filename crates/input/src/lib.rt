@@ -3,7 +3,7 @@ ghost use mathlib.Core.Path.{_≡_};
 ghost use Prim.Native.Nat.{_+_, _/_, _≤_, _<_};
 ghost use lib.ListN.{length, take};
 ghost use Rattle.io.specs.Counts.{Counts};
-ghost use Rattle.input.specs.Input.{wordAt, wordsIn, bytesRead, inputRefusal};
+ghost use Rattle.input.specs.Input.{wordAtByte, wordsIn, bytesRead, inputRefusal};
 use refusals::Verdict;
 
 fn wide_byte(x: u8) -> u32
@@ -15,7 +15,7 @@ fn wide_byte(x: u8) -> u32
 // The word at byte i.
 fn word_at(bytes: &[u8], i: usize) -> u32
     requires { ⌜ i + 4 ≤ length (now bytes) ⌝ }
-    ensures { λ r. ⌜ r ≡ wordAt (now (bytes .entry)) i ⌝ }
+    ensures { λ r. ⌜ r ≡ wordAtByte (now (bytes .entry)) i ⌝ }
 {
     let a = wide_byte(bytes[i]);
     let b = wide_byte(bytes[i + 1]);

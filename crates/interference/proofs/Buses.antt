@@ -8,7 +8,7 @@ use mathlib.Core.Path.{_≡_, refl, ap, _∙_}
 use native.Mathlib.Omega.{arith}
 use lib.Dec.{eqb, ltb}
 use lib.ListN.{getD}
-use Rattle.folds.specs.Folds.{when, sumTo}
+use Rattle.folds.specs.Folds.{onlyIf, sumTo}
 use Rattle.folds.proofs.Folds.{sumTo-cong}
 use Rattle.board.specs.Layout.{tasks, cores, slots, core}
 use Rattle.board.specs.Sound.{Sound}
@@ -68,9 +68,9 @@ module _ (b R : List ℕ) (i : ℕ) {t x j : ℕ} (s : Sound b) (task : i < task
 
 -- ---- bus 3
 
-when-min : (t : Bool) (v cap : ℕ) → min (when t v) cap ≡ when t (min v cap)
-when-min true v cap = refl
-when-min false v cap = omega arith
+onlyIf-min : (t : Bool) (v cap : ℕ) → min (onlyIf t v) cap ≡ onlyIf t (min v cap)
+onlyIf-min true v cap = refl
+onlyIf-min false v cap = omega arith
 
 pub round-robin-is : (b R : List ℕ) (i : ℕ) (table : List ℕ) {t x j s : ℕ} → t ≡ getD R i 0 → x ≡ core b i → j ≡ lowest b
     → Holds mostCores (λ y. carriedFrom b R t x j (y + 1)) table → cores b ≤ mostCores → s ≡ ownAccesses b R i
@@ -82,4 +82,4 @@ round-robin-is b R i table now here last h few own =
     (λ y l.
     let cap = slots b (y + 1) * ownAccesses b R i in
     ap (λ (v : ℕ). min v cap) (h .at y (omega arith) ∙ rw (now, here, last) (carriedFrom-is b R (getD R i 0) (core b i) (lowest b) (y + 1)))
-    ∙ when-min (not (eqb (y + 1) (core b i))) (coreAccesses b R (getD R i 0) (lowest b) (y + 1)) cap)
+    ∙ onlyIf-min (not (eqb (y + 1) (core b i))) (coreAccesses b R (getD R i 0) (lowest b) (y + 1)) cap)

@@ -27,7 +27,7 @@ use Rattle.figures.specs.declared.Figure.{Figure}
 use Rattle.figures.proofs.Figure as T
 use Rattle.calls.proofs.Steps.{val}
 use Rattle.calls.proofs.Cells.{listed}
-use Rattle.calls.proofs.Extras.{Extra, Values, tys, machines, owned-all, passed, flat-passed, owns-passed}
+use Rattle.calls.proofs.Extras.{Extra, Values, tys, machines, owned-all, offered, flat-offered, owns-offered}
 use Rattle.calls.proofs.Buffers.{Buffers, none, both, called, Refs, Lists, argVals, lastList, first, ended, all-vals, left}
 use Rattle.lent.proofs.Lender.{lending, tokens, owned}
 
@@ -47,8 +47,8 @@ call-shares both qs = (qs .0, (qs .1 .0, (qs .1 .1 .0, (fullShare, tt))))
 
 module _ (N : ℕ) (xs : List Extra) (S : RattleType) where
   abbrev pub call-args : (g : Buffers) (κs : Lfts (called g)) → RefT (List ℕ) → Handed g xs → Args (ended xs g S .signature) κs
-  call-args none κs b h = (b, (h .table, passed 2 (first 1) κs xs (h .extras)))
-  call-args both κs b h = (b, (h .buffers .0, (h .buffers .1, (h .table, passed 4 (first 3) κs xs (h .extras)))))
+  call-args none κs b h = (b, (h .table, offered 2 (first 1) κs xs (h .extras)))
+  call-args both κs b h = (b, (h .buffers .0, (h .buffers .1, (h .table, offered 4 (first 3) κs xs (h .extras)))))
 
   abbrev pub call-vals : (g : Buffers) (κs : Lfts (called g)) → RefT (List ℕ) → Handed g xs → Machine (ended xs g S .signature) κs
   call-vals g κs b h = all-vals xs g S κs (call-args g κs b h)
@@ -56,9 +56,9 @@ module _ (N : ℕ) (xs : List Extra) (S : RattleType) where
   pub flat-called : (g : Buffers) (κs : Lfts (called g)) (b : RefT (List ℕ)) (h : Handed g xs)
       → flat (typesAt (ended xs g S .signature .params) κs) (call-vals g κs b h)
       ≡ val b ∷ (argVals g (h .buffers) ++ (val (h .table) ∷ listed (tys xs) (machines xs (h .extras))))
-  flat-called none κs b h = ap (λ (vs : List Val). val b ∷ val (h .table) ∷ vs) (flat-passed 2 (first 1) κs xs (h .extras))
+  flat-called none κs b h = ap (λ (vs : List Val). val b ∷ val (h .table) ∷ vs) (flat-offered 2 (first 1) κs xs (h .extras))
   flat-called both κs b h =
-      ap (λ (vs : List Val). val b ∷ val (h .buffers .0) ∷ val (h .buffers .1) ∷ val (h .table) ∷ vs) (flat-passed 4 (first 3) κs xs (h .extras))
+      ap (λ (vs : List Val). val b ∷ val (h .buffers .0) ∷ val (h .buffers .1) ∷ val (h .table) ∷ vs) (flat-offered 4 (first 3) κs xs (h .extras))
 
   -- the last lists
   abbrev pub new-lists : (g : Buffers) (κs : Lfts (called g)) (b : RefT (List ℕ)) (h : Handed g xs) → Lasts (ended xs g S) κs (call-args g κs b h) → Lists g
@@ -82,12 +82,12 @@ module _ (N : ℕ) (xs : List Extra) (S : RattleType) where
     hands none κs qs ν b h =
         qed W (hand-items none κs qs ν b h) ∵
         use0 W (‵ ftrue) (id⊢ 𝓤 _) $ move ! (1 ∷ 3 ∷ 0 ∷ []) $ group ! 3 $ frame ! $ move ! (4 ∷ []) $
-        rewrite ! 0 (λ (P : Fml). ‵ P) (sym (owns-passed 2 (first 1) (call-lfts none κs ν) xs (h .extras))) refl $ move ! (4 ∷ 0 ∷ []) $ fjoin ! $
+        rewrite ! 0 (λ (P : Fml). ‵ P) (sym (owns-offered 2 (first 1) (call-lfts none κs ν) xs (h .extras))) refl $ move ! (4 ∷ 0 ∷ []) $ fjoin ! $
         move ! (2 ∷ 0 ∷ []) $ fjoin ! $ keep ! (0 ∷ []) $ done !
     hands both κs qs ν b h =
         qed W (hand-items both κs qs ν b h) ∵
         move ! (1 ∷ []) $ split ! $ move ! (5 ∷ []) $ split ! $ use0 W (‵ ftrue) (id⊢ 𝓤 _) $ move ! (5 ∷ 3 ∷ 4 ∷ 6 ∷ 0 ∷ []) $ group ! 5 $ frame ! $ move ! (4 ∷ []) $
-        rewrite ! 0 (λ (P : Fml). ‵ P) (sym (owns-passed 4 (first 3) (call-lfts both κs ν) xs (h .extras))) refl $ move ! (4 ∷ 0 ∷ []) $ fjoin ! $
+        rewrite ! 0 (λ (P : Fml). ‵ P) (sym (owns-offered 4 (first 3) (call-lfts both κs ν) xs (h .extras))) refl $ move ! (4 ∷ 0 ∷ []) $ fjoin ! $
         move ! (2 ∷ 0 ∷ []) $ fjoin ! $ move ! (1 ∷ 0 ∷ []) $ fjoin ! $ move ! (1 ∷ 0 ∷ []) $ fjoin ! $ keep ! (0 ∷ []) $ done !
 
     pub returned : (g : Buffers) (κs : Lfts (lending g)) (qs : Shares (lending g)) (ν : ℕ)

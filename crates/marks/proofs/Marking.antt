@@ -13,7 +13,7 @@ use lib.Arith.{lt-of-le-ne}
 use lib.Dec.{eqb}
 use lib.ListN.{length, getD, set, replicate, getD-replicate, length-set, length-replicate}
 use lib.Seq.{getD-set-same, getD-set-other}
-use Rattle.folds.specs.Folds.{when}
+use Rattle.folds.specs.Folds.{onlyIf}
 use Rattle.board.specs.Layout.{kindOf, blockOf}
 use Rattle.trace.specs.Cache.{setOf}
 use Rattle.trace.specs.Traces.{Trace, fetch, work, reads, dataBlock}
@@ -45,7 +45,7 @@ pub mark-none : (c x : ℕ) (keep : Bool) → x ≡ 0 → markOf c x keep ≡ 0
 unfolding markOf
 mark-none c x keep z = rw (eq-eqb x 0 z)
 
-pub mark-load : (c x : ℕ) (keep : Bool) → (x ≡ 0 → ⊥) → markOf c x keep ≡ 1 + 2 * slotSet c x + when keep 1
+pub mark-load : (c x : ℕ) (keep : Bool) → (x ≡ 0 → ⊥) → markOf c x keep ≡ 1 + 2 * slotSet c x + onlyIf keep 1
 unfolding markOf
 mark-load c x keep n = rw (ne-eqb x 0 n)
 
@@ -67,11 +67,11 @@ module _ (c : ℕ) (first : List ℕ) (block s : ℕ) (own : s ≡ setOf c block
   pub load-first : set first s (block + 1) ≡ withLoad c first (block + 1)
   load-first = sym (with-load c first (block + 1) (λ z. omega arith) ∙ ap (λ (k : ℕ). set first k (block + 1)) slot-set)
 
-  pub load-mark : (k : ℕ) → k ≡ when (eqb (block + 1) (getD first s 0)) 1 → 1 + 2 * s + k ≡ markBy c first (block + 1)
+  pub load-mark : (k : ℕ) → k ≡ onlyIf (eqb (block + 1) (getD first s 0)) 1 → 1 + 2 * s + k ≡ markBy c first (block + 1)
   load-mark k e =
       ap (λ (j : ℕ). 1 + 2 * s + j) e
       ∙ sym (mark-load c (block + 1) (eqb (block + 1) (getD first (slotSet c (block + 1)) 0)) (λ z. omega arith)
-      ∙ ap (λ (j : ℕ). 1 + 2 * j + when (eqb (block + 1) (getD first j 0)) 1) slot-set)
+      ∙ ap (λ (j : ℕ). 1 + 2 * j + onlyIf (eqb (block + 1) (getD first j 0)) 1) slot-set)
 
 module _ (c : ℕ) (first : List ℕ) (w : ℕ) (none : kindOf w ≡ 1 → ⊥) where
   pub skip-first : first ≡ withLoad c first (readSlot w)

@@ -6,7 +6,7 @@ use mathlib.Core.Bool.{Bool, not, cond, _&&_}
 use mathlib.Core.List.{List}
 use lib.Dec.{eqb}
 use lib.ListN.{getD, set}
-use Rattle.folds.specs.Folds.{when}
+use Rattle.folds.specs.Folds.{onlyIf}
 use Rattle.board.specs.Layout.{kindOf, blockOf}
 use Rattle.trace.specs.Cache.{setOf}
 use Rattle.trace.specs.Slots.{slotSet, kept}
@@ -20,7 +20,7 @@ dataTouches c w s = not (eqb (kindOf w) 0) && eqb (setOf c (blockOf w)) s
 
 -- the mark of a slot that loads x: 0 where that is nothing, else 1 + 2 × its set, and 1 more where the load is kept
 unfoldable pub markOf : ℕ → ℕ → Bool → ℕ
-markOf c x keep = cond (eqb x 0) 0 (1 + 2 * slotSet c x + when keep 1)
+markOf c x keep = cond (eqb x 0) 0 (1 + 2 * slotSet c x + onlyIf keep 1)
 
 -- the marks of the slots from e on, in a run of n
 abbrev pub Marked : (ℕ → ℕ) → ℕ → ℕ → List ℕ → ℕ → Type 0
@@ -48,5 +48,5 @@ markEnds mark before = not (markKept mark) && before (markSet mark)
 abbrev pub markMisses : ℕ → (ℕ → Bool) → Bool
 markMisses mark before = not (eqb mark 0) && not (before (markSet mark))
 
-abbrev pub passed : ℕ → (ℕ → Bool) → ℕ → Bool
-passed mark before s = cond (not (eqb mark 0) && eqb (markSet mark) s) (markKept mark) (before s)
+abbrev pub usefulAfter : ℕ → (ℕ → Bool) → ℕ → Bool
+usefulAfter mark before s = cond (not (eqb mark 0) && eqb (markSet mark) s) (markKept mark) (before s)

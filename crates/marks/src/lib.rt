@@ -11,14 +11,14 @@ ghost use mathlib.Core.Bool.{_||_};
 ghost use Prim.Native.Nat.{ℕ, _+_, _*_, _≤_, _<_};
 ghost use lib.Dec.{eqb};
 ghost use lib.ListN.{length, set};
-ghost use Rattle.folds.specs.Folds.{when, countTo, anyTo};
+ghost use Rattle.folds.specs.Folds.{onlyIf, countTo, anyTo};
 ghost use Rattle.bitset.specs.Bits.{member, wordsOf};
 ghost use Rattle.board.specs.Layout.{kindOf};
 ghost use Rattle.board.specs.Sound.{Sound};
 ghost use Rattle.trace.specs.Cache.{setOf};
 ghost use Rattle.trace.specs.Traces.{writes};
 ghost use Rattle.trace.specs.Places.{traceAt, Lies};
-ghost use Rattle.trace.specs.Reciprocal.{Sets};
+ghost use Rattle.trace.specs.Reciprocal.{SetDivisor};
 ghost use Rattle.trace.specs.Slots.{loadAt, touches};
 ghost use Rattle.marks.specs.Marks.{readSlot, dataTouches, Marked, markBy, withLoad};
 
@@ -31,7 +31,7 @@ pub fn mark_trace(
     ecb: &mut [u64],
     marks: &mut [u32],
 ) -> u32
-    requires { ⌜ (Sound (now board)) × (Lies (now board) start len) × (Sets (cache .sets) (cache .inverse))
+    requires { ⌜ (Sound (now board)) × (Lies (now board) start len) × (SetDivisor (cache .sets) (cache .inverse))
         × (length (now ecb) ≡ 4) × (2 * len ≤ length (now marks)) ⌝ }
     ensures { λ r. ⌜ (r ≡ countTo (writes (traceAt (now (board .entry)) start len)) len)
         × (Marked (loadAt (traceAt (now (board .entry)) start len)) (cache .sets) (2 * len) (now (marks .exit)) 0)
@@ -61,8 +61,8 @@ fn mark_data(
     ecb: &mut [u64],
     marks: &mut [u32],
 ) -> u32
-    requires { ⌜ (Sets (cache .sets) (cache .inverse)) × (kindOf w ≤ 2) × (length (now ecb) ≡ 4) × (e < length (now marks)) ⌝ }
-    ensures { λ r. ⌜ (r ≡ when (eqb (kindOf w) 2) 1)
+    requires { ⌜ (SetDivisor (cache .sets) (cache .inverse)) × (kindOf w ≤ 2) × (length (now ecb) ≡ 4) × (e < length (now marks)) ⌝ }
+    ensures { λ r. ⌜ (r ≡ onlyIf (eqb (kindOf w) 2) 1)
         × (now (first .exit) ≡ withLoad (cache .sets) (now (first .entry)) (readSlot w))
         × (now (ecb .exit) ≡ wordsOf (λ (s : ℕ). member (now (ecb .entry)) s || dataTouches (cache .sets) w s))
         × (now (marks .exit) ≡ set (now (marks .entry)) e (markBy (cache .sets) (now (first .entry)) (readSlot w))) × (r ≤ 1) ⌝ }
@@ -94,7 +94,7 @@ fn mark_load(
     ecb: &mut [u64],
     marks: &mut [u32],
 )
-    requires { ⌜ (Sets (cache .sets) (cache .inverse)) × (block < 65536) × (length (now ecb) ≡ 4) × (e < length (now marks)) ⌝ }
+    requires { ⌜ (SetDivisor (cache .sets) (cache .inverse)) × (block < 65536) × (length (now ecb) ≡ 4) × (e < length (now marks)) ⌝ }
     ensures { λ _. ⌜ (now (first .exit) ≡ withLoad (cache .sets) (now (first .entry)) (block + 1))
         × (now (ecb .exit) ≡ wordsOf (λ (s : ℕ). member (now (ecb .entry)) s || eqb (setOf (cache .sets) block) s))
         × (now (marks .exit) ≡ set (now (marks .entry)) e (markBy (cache .sets) (now (first .entry)) (block + 1))) ⌝ }

@@ -15,7 +15,7 @@ use Rattle.folds.specs.Stored.{Stored}
 use Rattle.folds.proofs.Filled.{take-filled}
 use Rattle.folds.proofs.Stored.{take-before}
 use Rattle.scratch.proofs.Prepared.{passable-kept}
-use Rattle.sums.specs.Inputs.{Times}
+use Rattle.sums.specs.Inputs.{CappedTimes}
 use Rattle.one_pass.specs.Startable.{Startable}
 
 -- before the first pass
@@ -29,7 +29,7 @@ module _ {b : List ℕ} {n : ℕ} {old : List ℕ} (ready : Startable b n old) w
   words : 2 * n ≤ length old
   words = ready .room .words
 
-  pub startable-times : Times b (take n old)
+  pub startable-times : CappedTimes b (take n old)
   startable-times =
       record {
         long = omega (arith, length-take-le n old (omega (arith, words)), ready .room .tasks);

@@ -11,22 +11,22 @@ use lib.Pow.{shr-shr, field, mod-mod-pow}
 use Rattle.folds.proofs.Numbers.{le-or-lt}
 use Rattle.bitset.specs.Bits.{bit, member}
 use Rattle.figures.specs.declared.Figure.{Figure}
-use Rattle.replies.specs.Records.{low, high, figureWords, figureWord}
+use Rattle.replies.specs.Records.{lowHalf, highHalf, figureWords, figureWord}
 
 -- the bits of a word's halves
-bit-low : (x k : ℕ) → k < 32 → bit (low x) k ≡ bit x k
+bit-low : (x k : ℕ) → k < 32 → bit (lowHalf x) k ≡ bit x k
 unfolding bit
 bit-low x k h =
     let whole : 32 ≡ 31 - k + 1 + k = omega arith in
     ap (λ (y : ℕ). eqb (y % 2) 1) (ap (λ (n : ℕ). x % 2 ^ n / 2 ^ k) whole ∙ field x (31 - k + 1) k)
     ∙ ap (λ (y : ℕ). eqb y 1) (mod-mod-pow (x / 2 ^ k) (31 - k) 1)
 
-bit-high : (x k : ℕ) → bit (high x) k ≡ bit x (32 + k)
+bit-high : (x k : ℕ) → bit (highHalf x) k ≡ bit x (32 + k)
 unfolding bit
 bit-high x k = ap (λ (y : ℕ). eqb (y % 2) 1) (shr-shr x 32 k)
 
 -- the two words of word i of ECB
-halves : (f : Figure) (i : ℕ) → i < 4 → (figureWord f (5 + 2 * i) ≡ low (getD (f .ecb) i 0)) × (figureWord f (6 + 2 * i) ≡ high (getD (f .ecb) i 0))
+halves : (f : Figure) (i : ℕ) → i < 4 → (figureWord f (5 + 2 * i) ≡ lowHalf (getD (f .ecb) i 0)) × (figureWord f (6 + 2 * i) ≡ highHalf (getD (f .ecb) i 0))
 unfolding figureWords
 halves f zero h = (refl, refl)
 halves f (suc zero) h = (refl, refl)

@@ -15,20 +15,20 @@ abbrev pub recordWords : ℕ
 recordWords = 13
 
 -- the low and the high 32 bits of a 64-bit word
-abbrev pub low : ℕ → ℕ
-low x = x % 2 ^ 32
+abbrev pub lowHalf : ℕ → ℕ
+lowHalf x = x % 2 ^ 32
 
-abbrev pub high : ℕ → ℕ
-high x = x / 2 ^ 32
+abbrev pub highHalf : ℕ → ℕ
+highHalf x = x / 2 ^ 32
 
 -- a record as words: core, T, D, PD, MD, then each word of ECB as its low and its high half
 unfoldable pub figureWords : Figure → List ℕ
 figureWords f =
     f .core ∷ f .period ∷ f .deadline ∷ f .pd ∷ f .md
-    ∷ low (getD (f .ecb) 0 0) ∷ high (getD (f .ecb) 0 0)
-    ∷ low (getD (f .ecb) 1 0) ∷ high (getD (f .ecb) 1 0)
-    ∷ low (getD (f .ecb) 2 0) ∷ high (getD (f .ecb) 2 0)
-    ∷ low (getD (f .ecb) 3 0) ∷ high (getD (f .ecb) 3 0)
+    ∷ lowHalf (getD (f .ecb) 0 0) ∷ highHalf (getD (f .ecb) 0 0)
+    ∷ lowHalf (getD (f .ecb) 1 0) ∷ highHalf (getD (f .ecb) 1 0)
+    ∷ lowHalf (getD (f .ecb) 2 0) ∷ highHalf (getD (f .ecb) 2 0)
+    ∷ lowHalf (getD (f .ecb) 3 0) ∷ highHalf (getD (f .ecb) 3 0)
     ∷ []
 
 abbrev pub figureWord : Figure → ℕ → ℕ

@@ -6,13 +6,13 @@ ghost use Prim.Native.Nat.{_*_, _≤_};
 ghost use lib.ListN.{length};
 ghost use Rattle.folds.specs.Folds.{fillTo};
 ghost use Rattle.figures.specs.Survey.{Fillable};
-ghost use Rattle.replies.specs.Records.{recordWords, low, high, figureWords, tableWord};
+ghost use Rattle.replies.specs.Records.{recordWords, lowHalf, highHalf, figureWords, tableWord};
 
 // The words of a record.
 pub const RECORD_WORDS: usize = 13;
 
 // Fills the first n records with the figures of the tasks below n. The words past them stay as they are.
-pub fn fill(board: &[u32], n: usize, words: &[u32], sets: &[u64; 256], records: &mut [u32])
+pub fn fill_words(board: &[u32], n: usize, words: &[u32], sets: &[u64; 256], records: &mut [u32])
     requires { ⌜ (Fillable (now board) n (now words) (now sets)) × (recordWords * n ≤ length (now records)) ⌝ }
     ensures { λ _. ⌜ now (records .exit) ≡ fillTo (tableWord (now (board .entry))) (recordWords * n) (now (records .entry)) ⌝ }
 {
@@ -52,13 +52,13 @@ fn words_of(f: Figure) -> [u32; RECORD_WORDS]
 }
 
 fn low_half(x: u64) -> u32
-    ensures { λ r. ⌜ r ≡ low x ⌝ }
+    ensures { λ r. ⌜ r ≡ lowHalf x ⌝ }
 {
     (x % 4294967296) as u32
 }
 
 fn high_half(x: u64) -> u32
-    ensures { λ r. ⌜ r ≡ high x ⌝ }
+    ensures { λ r. ⌜ r ≡ highHalf x ⌝ }
 {
     (x / 4294967296) as u32
 }

@@ -16,7 +16,7 @@ use Rattle.figures.specs.Survey.{Held, Overheads}
 use Rattle.figures.proofs.Fillable.{held-tasks}
 use Rattle.figures.proofs.Bounds.{taskMD-bound, γ-bound}
 use Rattle.sums.specs.Sums.{memoryDemand}
-use Rattle.sums.specs.Inputs.{Holds, Times, SumInput}
+use Rattle.sums.specs.Inputs.{Holds, CappedTimes, SumInput}
 use Rattle.folds.specs.Stored.{Stored}
 use Rattle.scratch.specs.Scratch.{Passable, Room, withMD, Addable, Added, Prepared}
 
@@ -115,7 +115,7 @@ module _ {b : List ℕ} {n : ℕ} {w : List ℕ} (ready : Prepared b n w) where
       ap (λ (p : ℕ). getD w p 0) place ∙ ready .rows i k task (tasks-in k h))
 
   -- what a sum takes: the PD, row i and the last row
-  pub sum-input : {R : List ℕ} {i own all : ℕ} → Times b R → i < n → (own ≡ 4 * n + i * n) × (own + n ≤ at.scratchWords n) × (own + n ≤ at.mostScratch)
+  pub sum-input : {R : List ℕ} {i own all : ℕ} → CappedTimes b R → i < n → (own ≡ 4 * n + i * n) × (own + n ≤ at.scratchWords n) × (own + n ≤ at.mostScratch)
       → (all ≡ 4 * n + (n - 1) * n) × (all + n ≤ at.scratchWords n) × (all + n ≤ at.mostScratch)
       → SumInput b (take (3 * n - 2 * n) (drop (2 * n) w)) (take (own + n - own) (drop own w)) (take (all + n - all) (drop all w)) R i
   sum-input {R} {i} {own} {all} times task row last =

@@ -5,7 +5,7 @@ ghost use Prim.Native.Nat.{_<_};
 ghost use lib.ListN.{length};
 ghost use Rattle.figures.specs.Survey.{Held};
 ghost use Rattle.sums.specs.Sums.{taskSum};
-ghost use Rattle.sums.specs.Inputs.{Times};
+ghost use Rattle.sums.specs.Inputs.{CappedTimes};
 ghost use Rattle.folds.specs.Stored.{Stored};
 ghost use Rattle.scratch.specs.Scratch.{Room, RowAddable, withMD, Addable, Added, Prepared};
 
@@ -49,7 +49,7 @@ pub fn prepare(board: &[u32], n: usize, scratch: &mut [u32], sets: &mut [u64; 25
 
 // The sum of task i at the times, from a prepared scratch.
 pub fn sum_of(board: &[u32], n: usize, scratch: &[u32], times: &[u32], i: usize) -> u64
-    requires { ⌜ (Prepared (now board) n (now scratch)) × (Times (now board) (now times)) × (i < n) ⌝ }
+    requires { ⌜ (Prepared (now board) n (now scratch)) × (CappedTimes (now board) (now times)) × (i < n) ⌝ }
     ensures { λ r. ⌜ r ≡ taskSum (now (board .entry)) (now (times .entry)) i ⌝ }
 {
     let own = place(n, i);

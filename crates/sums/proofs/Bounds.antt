@@ -19,7 +19,7 @@ use Rattle.figures.proofs.Overhead.{γ-bound}
 use Rattle.figures.proofs.Bounds.{taskPD-bound, taskMD-bound}
 use Rattle.sums.specs.Sums.{lowest, memoryDemand, isOther, isBefore, isAfter, overCores, window, ownAccesses, carryIn, coreAccesses, interference, busAccesses, refreshes, higherWork, taskSum}
 use Rattle.sums.specs.Limits.{mostCores, mostSlots, longestAccess, latestTime, mostWork, mostDemand, mostReleases, longestWindow, mostCarryIn, mostOwnAccesses, mostHigherWork, mostAccesses, mostInterference, mostBusAccesses}
-use Rattle.sums.specs.Inputs.{Times, releaseCost}
+use Rattle.sums.specs.Inputs.{CappedTimes, releaseCost}
 use Rattle.sums.proofs.Rising.{carry-mono}
 
 -- a sum of at most l terms
@@ -35,7 +35,7 @@ pub work-bound : (b : List ℕ) → Sound b → (k : ℕ) → k < tasks b → ta
 work-bound b s k h = omega (arith, taskPD-bound b s k h)
 
 -- D + 1
-pub time-bound : (b R : List ℕ) → Sound b → Times b R → (k : ℕ) → k < tasks b → getD R k 0 ≤ latestTime
+pub time-bound : (b R : List ℕ) → Sound b → CappedTimes b R → (k : ℕ) → k < tasks b → getD R k 0 ≤ latestTime
 time-bound b R s times k h = omega (arith, times .short k h, s .deadline k h .1, s .period k h .1)
 
 slots-bound : (b : List ℕ) → Sound b → slotsEach b ≤ mostSlots
@@ -44,7 +44,7 @@ slots-bound b s = ⊎-elim (λ (h : 3 ≤ bus b). s .slots h .1) (λ (h : bus b 
 rows-bound : (b : List ℕ) → Sound b → refreshRows b ≤ mostRefreshRows
 rows-bound b s = ⊎-elim (λ (h : 1 ≤ refresh b). s .rows h .1) (λ (h : refresh b < 1). omega (arith, s .noRefresh h .1)) (le-or-lt 1 (refresh b))
 
-module _ (b R : List ℕ) (s : Sound b) (times : Times b R) where
+module _ (b R : List ℕ) (s : Sound b) (times : CappedTimes b R) where
   -- ---- within t cycles
 
   module _ (t : ℕ) (early : t ≤ latestTime) where

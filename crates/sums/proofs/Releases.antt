@@ -8,7 +8,7 @@ use native.Mathlib.Omega.{arith}
 use lib.Dec.{eqb}
 use lib.ListN.{getD}
 use borrow.Author.Tests.{eq-eqb, ne-eqb}
-use Rattle.folds.specs.Folds.{when, sumTo}
+use Rattle.folds.specs.Folds.{onlyIf, sumTo}
 use Rattle.folds.proofs.Folds.{sumTo-next}
 use Rattle.board.specs.Layout.{core}
 use Rattle.sums.specs.Sums.{releases}
@@ -17,11 +17,11 @@ use Rattle.sums.proofs.Numbers.{product-cong}
 
 -- one more task: y is its core c as code reads it, and z the core x
 module _ {c x y z : ℕ} (acc : ℕ) (p : y ≡ c) (q : z ≡ x) where
-  pub add-on : {v w : ℕ} → y ≡ z → v ≡ w → acc + v ≡ acc + when (eqb c x) w
-  add-on e same = ap₂ (λ (n : ℕ) (t : Bool). acc + when t n) same (sym (eq-eqb c x (sym p ∙ e ∙ q)))
+  pub add-on : {v w : ℕ} → y ≡ z → v ≡ w → acc + v ≡ acc + onlyIf (eqb c x) w
+  add-on e same = ap₂ (λ (n : ℕ) (t : Bool). acc + onlyIf t n) same (sym (eq-eqb c x (sym p ∙ e ∙ q)))
 
-  pub add-off : (w : ℕ) → (y ≡ z → ⊥) → acc ≡ acc + when (eqb c x) w
-  add-off w n = omega (arith, ap (λ (t : Bool). when t w) (ne-eqb c x (λ e. n (p ∙ e ∙ sym q))))
+  pub add-off : (w : ℕ) → (y ≡ z → ⊥) → acc ≡ acc + onlyIf (eqb c x) w
+  add-off w n = omega (arith, ap (λ (t : Bool). onlyIf t w) (ne-eqb c x (λ e. n (p ∙ e ∙ sym q))))
 
 -- task i itself, which is on its core
 pub releaseCost-last : (b R : List ℕ) (i : ℕ) (cost : ℕ → ℕ) {acc n m : ℕ} → acc ≡ sumTo (releaseCost b R i cost) i

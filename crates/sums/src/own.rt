@@ -14,7 +14,7 @@ ghost use Rattle.board.specs.Sound.{Sound};
 ghost use Rattle.figures.specs.Figures.{taskPD};
 ghost use Rattle.sums.specs.Sums as spec;
 ghost use Rattle.sums.specs.Limits.{mostReleases, mostOwnAccesses, mostHigherWork};
-ghost use Rattle.sums.specs.Inputs.{Holds, Times, RowInput, releaseCost};
+ghost use Rattle.sums.specs.Inputs.{Holds, CappedTimes, RowInput, releaseCost};
 
 // The accesses and the work of some releases.
 pub struct OwnSums {
@@ -24,7 +24,7 @@ pub struct OwnSums {
 
 // ceil(t/T_k): the releases of task k within the time of task i.
 fn releases(board: &[u32], times: &[u32], i: usize, k: usize) -> u64
-    requires { ⌜ (Sound (now board)) × Times (now board) (now times) × (i < at.tasks (now board)) × (k < at.tasks (now board)) ⌝ }
+    requires { ⌜ (Sound (now board)) × CappedTimes (now board) (now times) × (i < at.tasks (now board)) × (k < at.tasks (now board)) ⌝ }
     ensures { λ r. ⌜ (r ≡ spec.releases (now (board .entry)) i k (getD (now (times .entry)) i 0)) × (r ≤ mostReleases) ⌝ }
 {
     ceil_div_tested(time(board, times, i), wide(period(board, k)))

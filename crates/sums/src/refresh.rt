@@ -11,11 +11,11 @@ ghost use Prim.Native.Nat.{_<_, _≤_};
 ghost use Rattle.board.specs.Layout as at;
 ghost use Rattle.board.specs.Sound.{Sound};
 ghost use Rattle.sums.specs.Sums as spec;
-ghost use Rattle.sums.specs.Inputs.{Times};
+ghost use Rattle.sums.specs.Inputs.{CappedTimes};
 
 // Form 1: every interval that begins refreshes all rows.
 fn burst(board: &[u32], times: &[u32], i: usize) -> u64
-    requires { ⌜ (Sound (now board)) × Times (now board) (now times) × (i < at.tasks (now board)) × (1 ≤ at.refresh (now board)) ⌝ }
+    requires { ⌜ (Sound (now board)) × CappedTimes (now board) (now times) × (i < at.tasks (now board)) × (1 ≤ at.refresh (now board)) ⌝ }
     ensures { λ r. ⌜ r ≡ spec.refreshes (now (board .entry)) (now (times .entry)) i 1 ⌝ }
 {
     let t = time(board, times, i);
@@ -26,7 +26,7 @@ fn burst(board: &[u32], times: &[u32], i: usize) -> u64
 
 // Form 2: evenly spaced refreshes, at most one for each of the count of bus accesses.
 fn distributed(board: &[u32], times: &[u32], i: usize, count: u64) -> u64
-    requires { ⌜ (Sound (now board)) × Times (now board) (now times) × (i < at.tasks (now board)) × (1 ≤ at.refresh (now board)) ⌝ }
+    requires { ⌜ (Sound (now board)) × CappedTimes (now board) (now times) × (i < at.tasks (now board)) × (1 ≤ at.refresh (now board)) ⌝ }
     requires { ⌜ count ≡ spec.busAccesses (now board) (now times) i ⌝ }
     ensures { λ r. ⌜ r ≡ spec.refreshes (now (board .entry)) (now (times .entry)) i 2 ⌝ }
 {
@@ -39,7 +39,7 @@ fn distributed(board: &[u32], times: &[u32], i: usize, count: u64) -> u64
 
 // Q, with the count B of bus accesses.
 pub fn refreshes(board: &[u32], times: &[u32], i: usize, count: u64) -> u64
-    requires { ⌜ (Sound (now board)) × Times (now board) (now times) × (i < at.tasks (now board)) ⌝ }
+    requires { ⌜ (Sound (now board)) × CappedTimes (now board) (now times) × (i < at.tasks (now board)) ⌝ }
     requires { ⌜ count ≡ spec.busAccesses (now board) (now times) i ⌝ }
     ensures { λ r. ⌜ r ≡ spec.refreshes (now (board .entry)) (now (times .entry)) i (at.refresh (now (board .entry))) ⌝ }
 {

@@ -9,7 +9,7 @@ ghost use Rattle.figures.specs.Figures.{taskPD};
 ghost use Rattle.sums.specs.Sums as spec;
 ghost use Rattle.sums.specs.Sums.{memoryDemand};
 ghost use Rattle.sums.specs.Limits.{latestTime, mostWork, mostDemand};
-ghost use Rattle.sums.specs.Inputs.{Holds, Times};
+ghost use Rattle.sums.specs.Inputs.{Holds, CappedTimes};
 
 // PD of task k.
 pub fn work(board: &[u32], pd: &[u32], k: usize) -> u64
@@ -37,7 +37,7 @@ pub fn bound(board: &[u32], k: usize) -> u32
 
 // The time of task k.
 pub fn time(board: &[u32], times: &[u32], k: usize) -> u64
-    requires { ⌜ (Sound (now board)) × Times (now board) (now times) × (k < at.tasks (now board)) ⌝ }
+    requires { ⌜ (Sound (now board)) × CappedTimes (now board) (now times) × (k < at.tasks (now board)) ⌝ }
     ensures { λ r. ⌜ (r ≡ getD (now (times .entry)) k 0) × (r ≤ latestTime) ⌝ }
 {
     wide(times[k])

@@ -2,5 +2,5 @@
 pub mod Sets
 pub mod Evicted
 pub mod Rows
-pub mod Passed
+pub mod Gathered
 pub mod Held

@@ -9,7 +9,7 @@ use native.Mathlib.Omega.{arith}
 use lib.Dec.{eqb}
 use lib.ListN.{length, getD, replicate, length-replicate, getD-replicate}
 use borrow.Author.Tests.{lt-ltb, le-ltb}
-use Rattle.folds.specs.Folds.{when, maxTo}
+use Rattle.folds.specs.Folds.{onlyIf, maxTo}
 use Rattle.folds.proofs.Numbers.{le-or-lt}
 use Rattle.folds.proofs.Folds.{maxTo-none, maxTo-next}
 use Rattle.folds.proofs.Lists.{length-fillTo, fillTo-below, fillTo-from, fillTo-is, fillTo-cong}
@@ -20,7 +20,7 @@ use Rattle.figures.specs.Figures.{taskTrace}
 use Rattle.figures.specs.Overhead.{evictedBy, reloads, γ}
 use Rattle.figures.specs.Rows.{onCoreOf, raised}
 use Rattle.figures.proofs.Overhead.{reloadsBelow}
-use Rattle.figures.proofs.Rows.{when-zero, raised-none}
+use Rattle.figures.proofs.Rows.{onlyIf-zero, raised-none}
 
 -- raised twice
 pub raised-both : (f g : ℕ → ℕ) (i : ℕ) (row : List ℕ) → raised g i (raised f i row) ≡ raised (λ j. max (f j) (g j)) i row
@@ -31,9 +31,9 @@ raised-both f g i row =
     (λ j l w. omega (arith, fillTo-below twice (raised f i row) 0 i j l (omega (arith, length-fillTo once row i)), fillTo-below once row 0 i j l w))
     (λ j l. fillTo-from twice (raised f i row) 0 i j l ∙ fillTo-from once row 0 i j l)
 
-when-max : (test : Bool) (x y : ℕ) → max (when test x) (when test y) ≡ when test (max x y)
-when-max true x y = refl
-when-max false x y = refl
+onlyIf-max : (test : Bool) (x y : ℕ) → max (onlyIf test x) (onlyIf test y) ≡ onlyIf test (max x y)
+onlyIf-max true x y = refl
+onlyIf-max false x y = refl
 
 -- what the first r traces of task i add, and one trace more
 module _ (b : List ℕ) (i : ℕ) where
@@ -41,7 +41,7 @@ module _ (b : List ℕ) (i : ℕ) where
   addedBy r = onCoreOf b i (λ j. maxTo (λ q. mostUseful (taskTrace b i q) (evictedBy b j)) r)
 
   pub added-none : (row : List ℕ) → row ≡ raised (addedBy 0) i row
-  added-none row = raised-none (addedBy 0) i row (λ j. when-zero (eqb (core b i) (core b j)) _ (maxTo-none _))
+  added-none row = raised-none (addedBy 0) i row (λ j. onlyIf-zero (eqb (core b i) (core b j)) _ (maxTo-none _))
 
   pub added-turn : (r : ℕ) (row out next : List ℕ) → out ≡ raised (addedBy r) i row
       → next ≡ raised (onCoreOf b i (λ j. mostUseful (taskTrace b i r) (evictedBy b j))) i out
@@ -51,8 +51,8 @@ module _ (b : List ℕ) (i : ℕ) where
       q ∙ ap (raised more i) e ∙ raised-both (addedBy r) more i row
       ∙ fillTo-cong _ _ row i
       (λ j l. ap (max (getD row j 0))
-      (when-max (eqb (core b i) (core b j)) _ _
-      ∙ ap (when (eqb (core b i) (core b j))) (sym (maxTo-next (λ q. mostUseful (taskTrace b i q) (evictedBy b j)) r))))
+      (onlyIf-max (eqb (core b i) (core b j)) _ _
+      ∙ ap (onlyIf (eqb (core b i) (core b j))) (sym (maxTo-next (λ q. mostUseful (taskTrace b i q) (evictedBy b j)) r))))
 
   pub added-all : (row : List ℕ) → raised (addedBy (traceCount b i)) i row ≡ raised (onCoreOf b i (λ j. reloads b j i)) i row
   unfolding reloads
@@ -82,12 +82,12 @@ row-next b k row row' below e = record {
 
     past : (j : ℕ) → j < 64 → k ≤ j → getD (raised more k row) j 0 ≡ maxTo (reloadsBelow b j) (k + 1)
     past j h l =
-        let none : reloadsBelow b j k ≡ 0 = ap (λ (t : Bool). when (t && eqb (core b k) (core b j)) (reloads b j k)) (le-ltb j k l) in
+        let none : reloadsBelow b j k ≡ 0 = ap (λ (t : Bool). onlyIf (t && eqb (core b k) (core b j)) (reloads b j k)) (le-ltb j k l) in
         omega (arith, fillTo-from (λ q. max (getD row q 0) (more q)) row 0 k j l, below .each j h, maxTo-next (reloadsBelow b j) k)
 
     passed : (j : ℕ) → j < 64 → j < k → getD (raised more k row) j 0 ≡ maxTo (reloadsBelow b j) (k + 1)
     passed j h l =
-        let one : more j ≡ reloadsBelow b j k = ap (λ (t : Bool). when (t && eqb (core b k) (core b j)) (reloads b j k)) (sym (lt-ltb j k l)) in
+        let one : more j ≡ reloadsBelow b j k = ap (λ (t : Bool). onlyIf (t && eqb (core b k) (core b j)) (reloads b j k)) (sym (lt-ltb j k l)) in
         fillTo-below (λ q. max (getD row q 0) (more q)) row 0 k j l (omega (arith, below .long)) ∙ maxTo-turn (reloadsBelow b j) k (below .each j h) one
 
 -- the row of the tasks up to i

@@ -143,7 +143,7 @@ fn survey_trace(
 {
     let len = index(fields::trace_length(board, at.trace));
     let pd = demand::pd(board, at.start, len);
-    let found = useful::survey(board, at.start, len, ecb, marks, lives);
+    let found = useful::scan_trace(board, at.start, len, ecb, marks, lives);
     let demand = Demand { pd, md: found.md };
     if rows {
         row::raise(board, i, evicted, lives, found.records, row);

@@ -8,9 +8,9 @@ use mathlib.Core.Path.{_≡_}
 use borrow.Author.Tests.{ne-eqb}
 use lib.Dec.{leb, eqb}
 use lib.ListN.{length}
-use Rattle.folds.specs.Folds.{when, sumTo, countTo}
+use Rattle.folds.specs.Folds.{onlyIf, sumTo, countTo}
 use Rattle.folds.proofs.Folds.{sumTo-bound, sumTo-mono, countTo-bound}
-use Rattle.folds.proofs.Numbers.{when-mono, when-bound, when-and}
+use Rattle.folds.proofs.Numbers.{onlyIf-mono, onlyIf-bound, onlyIf-and}
 use Rattle.board.specs.Layout.{memory, cyclesOf, heldCode, heldData, cacheSets, kindOf, firstDataBlock}
 use Rattle.trace.specs.Cache.{misses, missCount}
 use Rattle.trace.specs.Traces.{Trace, fetch, work, reads, writes, dataBlock, allLoads, tracePD, busLoads, traceMD}
@@ -22,12 +22,12 @@ module _ (t : Trace) where
   tracePD-bound = sumTo-bound (λ p. cyclesOf (work t p)) (t .len) 4095 (λ p h. omega arith)
 
   -- an instruction either reads or writes
-  one-kind : (k : ℕ) → when (eqb k 1) 1 + when (eqb k 2) 1 ≤ 1
+  one-kind : (k : ℕ) → onlyIf (eqb k 1) 1 + onlyIf (eqb k 2) 1 ≤ 1
   one-kind k = go (ℕ-discrete k 1)
     where
-      go : Dec (k ≡ 1) → when (eqb k 1) 1 + when (eqb k 2) 1 ≤ 1
+      go : Dec (k ≡ 1) → onlyIf (eqb k 1) 1 + onlyIf (eqb k 2) 1 ≤ 1
       go (yes e) = rw e (omega arith)
-      go (no n) = rw (ne-eqb k 1 n) (omega (arith, when-bound (eqb k 2) {a = 1} {m = 1} (omega arith)))
+      go (no n) = rw (ne-eqb k 1 n) (omega (arith, onlyIf-bound (eqb k 2) {a = 1} {m = 1} (omega arith)))
 
   data-bound : (n : ℕ) → countTo (reads t) n + countTo (writes t) n ≤ n
   unfolding countTo sumTo
@@ -40,7 +40,7 @@ module _ (t : Trace) where
   held-bound : (high : ℕ) → countTo (λ p. reads t p && leb high (dataBlock t p)) (t .len) ≤ countTo (reads t) (t .len)
   unfolding countTo
   held-bound high =
-      sumTo-mono _ _ (t .len) (λ p h. rw (when-and (reads t p) (leb high (dataBlock t p)) 1) (when-mono (reads t p) (λ e. when-bound (leb high (dataBlock t p)) (omega arith))))
+      sumTo-mono _ _ (t .len) (λ p h. rw (onlyIf-and (reads t p) (leb high (dataBlock t p)) 1) (onlyIf-mono (reads t p) (λ e. onlyIf-bound (leb high (dataBlock t p)) (omega arith))))
 
   busLoads-bound : (m : ℕ) → busLoads t m ≤ t .len + countTo (reads t) (t .len)
   unfolding busLoads missCount

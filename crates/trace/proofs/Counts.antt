@@ -10,7 +10,7 @@ use native.Mathlib.Omega.{arith}
 use borrow.Author.Tests.{eq-eqb, ne-eqb, le-leb}
 use lib.Dec.{leb}
 use lib.ListN.{length, length-append}
-use Rattle.folds.specs.Folds.{when, sumTo, countTo}
+use Rattle.folds.specs.Folds.{onlyIf, sumTo, countTo}
 use Rattle.folds.proofs.Folds.{sumTo-add, countTo-none, countTo-next, countTo-cong}
 use Rattle.board.specs.Layout.{memory, heldCode, heldData, cacheSets, kindOf, blockOf, firstDataBlock}
 use Rattle.trace.specs.Traces.{Trace, fetch, work, reads, writes, dataBlock, loadsBy, loads, busLoads, traceMD}
@@ -25,7 +25,7 @@ module _ (t : Trace) where
   loads-count zero = omega (arith, countTo-none (λ p. true), countTo-none (reads t))
   loads-count (suc n) =
       let next = ap length (sym (ap (loads t 0) (add-one n)) ∙ loadsBefore-next t n) in
-      let by : length (loadsBy t n) ≡ 1 + when (reads t n) 1 = go (reads t n) in
+      let by : length (loadsBy t n) ≡ 1 + onlyIf (reads t n) 1 = go (reads t n) in
       let more : suc n ≡ n + 1 = omega arith in
       omega (
         arith,
@@ -39,23 +39,23 @@ module _ (t : Trace) where
         ap (countTo (reads t)) more,
       )
     where
-      go : (r : Bool) → length (fetch t n ∷ cond r (dataBlock t n ∷ []) []) ≡ 1 + when r 1
+      go : (r : Bool) → length (fetch t n ∷ cond r (dataBlock t n ∷ []) []) ≡ 1 + onlyIf r 1
       go true = refl
       go false = refl
 
   -- ---- the accesses of one instruction, by its kind: f for the block x that it fetches, r for the work word w that it reads by
 
-  module _ (low high p f x : ℕ) (fetched : f ≡ when (leb low x) 1) (block : x ≡ fetch t p) where
-    fetch-is : f ≡ when (leb low (fetch t p)) 1
-    fetch-is = fetched ∙ ap (λ (m : ℕ). when (leb low m) 1) block
+  module _ (low high p f x : ℕ) (fetched : f ≡ onlyIf (leb low x) 1) (block : x ≡ fetch t p) where
+    fetch-is : f ≡ onlyIf (leb low (fetch t p)) 1
+    fetch-is = fetched ∙ ap (λ (m : ℕ). onlyIf (leb low m) 1) block
 
     pub accesses-execute : kindOf (work t p) ≡ 0 → f ≡ accesses t low high p
     unfolding accesses
     accesses-execute k = rw k (omega (arith, fetch-is))
 
-    pub accesses-read : (r m : ℕ) → r ≡ when (leb high m) 1 → m ≡ blockOf (work t p) → kindOf (work t p) ≡ 1 → f + r ≡ accesses t low high p
+    pub accesses-read : (r m : ℕ) → r ≡ onlyIf (leb high m) 1 → m ≡ blockOf (work t p) → kindOf (work t p) ≡ 1 → f + r ≡ accesses t low high p
     unfolding accesses
-    accesses-read r m read block k = rw k (omega (arith, fetch-is, read ∙ ap (λ (x : ℕ). when (leb high x) 1) block))
+    accesses-read r m read block k = rw k (omega (arith, fetch-is, read ∙ ap (λ (x : ℕ). onlyIf (leb high x) 1) block))
 
     pub accesses-write : kindOf (work t p) ≡ 2 → f + 1 ≡ accesses t low high p
     unfolding accesses
@@ -67,9 +67,9 @@ module _ (t : Trace) where
       ≡ countTo (λ p. leb low (fetch t p)) (t .len) + countTo (λ p. reads t p && leb (high) (dataBlock t p)) (t .len) + countTo (writes t) (t .len)
   unfolding accesses countTo
   sum-is low high =
-      sumTo-add (λ p. when (leb low (fetch t p)) 1 + when (reads t p && leb (high) (dataBlock t p)) 1) (λ p. when (writes t p) 1) (t .len)
-      ∙ ap (λ (k : ℕ). k + sumTo (λ p. when (writes t p) 1) (t .len))
-      (sumTo-add (λ p. when (leb low (fetch t p)) 1) (λ p. when (reads t p && leb (high) (dataBlock t p)) 1) (t .len))
+      sumTo-add (λ p. onlyIf (leb low (fetch t p)) 1 + onlyIf (reads t p && leb (high) (dataBlock t p)) 1) (λ p. onlyIf (writes t p) 1) (t .len)
+      ∙ ap (λ (k : ℕ). k + sumTo (λ p. onlyIf (writes t p) 1) (t .len))
+      (sumTo-add (λ p. onlyIf (leb low (fetch t p)) 1) (λ p. onlyIf (reads t p && leb (high) (dataBlock t p)) 1) (t .len))
 
   md-is : (m : ℕ) → memory (t .words) ≡ m → busLoads t m + countTo (writes t) (t .len) ≡ traceMD t
   unfolding traceMD

@@ -4,10 +4,10 @@ use Prim.Native.Nat.{ℕ, _+_, _-_, _*_, _/_, _%_, _≤_, _<_}
 use mathlib.Core.Path.{_≡_, sym, ap, _∙_}
 use native.Mathlib.Nat.{mul-assoc, mul-comm, mul-right-comm, one-mul, add-mul, mul-le-mul, mul-le-mul-left, mul-le-mul-right, lt-of-mul-lt-mul-right, div-le-self, div-eq-of-lt-le, div-mul-le-self, lt-div-mul-add, mod-eq-sub-div-mul}
 use native.Mathlib.Omega.{arith}
-use Rattle.trace.specs.Reciprocal.{Sets}
+use Rattle.trace.specs.Reciprocal.{SetDivisor}
 
 -- c × i is 2^24 and at most 256 more; so x × i × c is x × 2^24 and less than 2^24 more where x is below 2^16
-module _ (c i : ℕ) (sets : Sets c i) where
+module _ (c i : ℕ) (sets : SetDivisor c i) where
   product : i * c ≡ 16777216 / c * c + c
   product = ap (λ (k : ℕ). k * c) (sets .reciprocal) ∙ add-mul (16777216 / c) 1 c ∙ ap (λ (k : ℕ). 16777216 / c * c + k) (one-mul c)
 

@@ -4,7 +4,7 @@ use Prim.Native.Nat.{ℕ, _+_, _/_, _≤_}
 use mathlib.Core.Path.{_≡_}
 
 -- 1 .. 256 sets, and their reciprocal in units of 2^-24
-pub record Sets (sets inverse : ℕ) : Type 0 where
+pub record SetDivisor (sets inverse : ℕ) : Type 0 where
   pub some : 1 ≤ sets
   pub few : sets ≤ 256
   pub reciprocal : inverse ≡ 16777216 / sets + 1

@@ -4,7 +4,7 @@
 use Prim.Native.Nat.{ℕ, zero, suc, _+_, _-_, _/_, _%_}
 use mathlib.Core.Bool.{Bool, not, cond, _&&_, _||_}
 use lib.Dec.{leb, eqb}
-use Rattle.folds.specs.Folds.{when}
+use Rattle.folds.specs.Folds.{onlyIf}
 use Rattle.board.specs.Layout.{kindOf}
 use Rattle.trace.specs.Cache.{setOf}
 use Rattle.trace.specs.Traces.{Trace, fetch, work, reads, writes, dataBlock}
@@ -43,7 +43,7 @@ slotMisses l c e = not (eqb (l e) 0) && not (eqb (lastSlot l c (slotSet c (l e))
 
 -- without a cache: the bus accesses of instruction p, where fetches of blocks from `low` on and reads of blocks from `high` on use the bus
 unfoldable pub accesses : Trace → ℕ → ℕ → ℕ → ℕ
-accesses t low high p = when (leb low (fetch t p)) 1 + when (reads t p && leb high (dataBlock t p)) 1 + when (writes t p) 1
+accesses t low high p = onlyIf (leb low (fetch t p)) 1 + onlyIf (reads t p && leb high (dataBlock t p)) 1 + onlyIf (writes t p) 1
 
 -- whether instruction p touches set s of c
 unfoldable pub touches : Trace → ℕ → ℕ → ℕ → Bool

@@ -12,8 +12,8 @@ use mir.Val.{Fits}
 use borrow.Author.Tests.{eqb-true, eq-eqb, ne-eqb}
 use lib.Dec.{eqb}
 use lib.ListN.{length, getD}
-use Rattle.folds.specs.Folds.{when, countTo}
-use Rattle.folds.proofs.Numbers.{when-bound}
+use Rattle.folds.specs.Folds.{onlyIf, countTo}
+use Rattle.folds.proofs.Numbers.{onlyIf-bound}
 use Rattle.folds.proofs.Folds.{countTo-next}
 use Rattle.board.specs.Layout.{memory, cacheSets}
 use Rattle.bitset.specs.Bits.{member, wordsOf}
@@ -23,14 +23,14 @@ use Rattle.trace.specs.Slots.{loadAt, slotSet, loadsInto, lastSlot, usefulBefor
 use Rattle.trace.proofs.Scans.{into-none, firstSlot-end, firstSlot-own, useful-start, useful-next}
 use Rattle.trace.proofs.Sets.{useful-slot}
 use Rattle.useful.specs.Recorded.{Subset}
-use Rattle.marks.specs.Marks.{markOf, Marked, markSet, markKept, markEnds, markMisses, passed}
+use Rattle.marks.specs.Marks.{markOf, Marked, markSet, markKept, markEnds, markMisses, usefulAfter}
 use Rattle.marks.proofs.Marking.{mark-none, mark-load}
 
 -- ---- what the code does at a slot
 
 module _ (live : List ℕ) (mark : ℕ) where
-  pub pass-none : mark ≡ 0 → length live ≡ 4 → ((k : ℕ) → Fits w64 (getD live k 0)) → live ≡ wordsOf (passed mark (member live))
-  pass-none z four fit = words-ext live (passed mark (member live)) four fit (λ s h. sym (rw (eq-eqb mark 0 z)))
+  pub pass-none : mark ≡ 0 → length live ≡ 4 → ((k : ℕ) → Fits w64 (getD live k 0)) → live ≡ wordsOf (usefulAfter mark (member live))
+  pass-none z four fit = words-ext live (usefulAfter mark (member live)) four fit (λ s h. sym (rw (eq-eqb mark 0 z)))
 
   module _ (loads : mark ≡ 0 → ⊥) where
     own : (t s : ℕ) → s ≡ markSet mark → Dec (t ≡ s) → (not (eqb mark 0) && eqb (markSet mark) t) ≡ eqb t s
@@ -38,14 +38,14 @@ module _ (live : List ℕ) (mark : ℕ) where
     own t s e (no o) = rw (ne-eqb mark 0 loads, ne-eqb t s o) (ne-eqb (markSet mark) t (λ q. o (sym q ∙ sym e)))
 
     module _ (s : ℕ) (set : s ≡ markSet mark) where
-      pub pass-keep : markKept mark ≡ true → wordsOf (λ t. eqb t s || member live t) ≡ wordsOf (passed mark (member live))
+      pub pass-keep : markKept mark ≡ true → wordsOf (λ t. eqb t s || member live t) ≡ wordsOf (usefulAfter mark (member live))
       pass-keep k = wordsOf-cong _ _ (λ t h. sym (ap₂ (λ (i b : Bool). cond i b (member live t)) (own t s set (ℕ-discrete t s)) k ∙ go (eqb t s) (member live t)))
         where
           go : (i m : Bool) → cond i true m ≡ (i || m)
           go true m = refl
           go false m = refl
 
-      pub pass-drop : markKept mark ≡ false → wordsOf (λ t. not (eqb t s) && member live t) ≡ wordsOf (passed mark (member live))
+      pub pass-drop : markKept mark ≡ false → wordsOf (λ t. not (eqb t s) && member live t) ≡ wordsOf (usefulAfter mark (member live))
       pass-drop k = wordsOf-cong _ _ (λ t h. sym (ap₂ (λ (i b : Bool). cond i b (member live t)) (own t s set (ℕ-discrete t s)) k ∙ go (eqb t s) (member live t)))
         where
           go : (i m : Bool) → cond i false m ≡ (not i && m)
@@ -73,9 +73,9 @@ right true b e = e
 right false b e = absurd (false≢true e)
 
 -- a slot loses no set unless it ends the use of its own, and adds none unless its own came up
-module _ (live next : List ℕ) (mark : ℕ) (after : next ≡ wordsOf (passed mark (member live))) where
-  at-next : (s : ℕ) → s < 256 → member next s ≡ passed mark (member live) s
-  at-next s h = ap (λ (w : List ℕ). member w s) after ∙ member-wordsOf (passed mark (member live)) s h
+module _ (live next : List ℕ) (mark : ℕ) (after : next ≡ wordsOf (usefulAfter mark (member live))) where
+  at-next : (s : ℕ) → s < 256 → member next s ≡ usefulAfter mark (member live) s
+  at-next s h = ap (λ (w : List ℕ). member w s) after ∙ member-wordsOf (usefulAfter mark (member live)) s h
 
   into-set : (s : ℕ) → (not (eqb mark 0) && eqb (markSet mark) s) ≡ true → markSet mark ≡ s
   into-set s e = eqb-true (markSet mark) s (right (not (eqb mark 0)) (eqb (markSet mark) s) e)
@@ -103,7 +103,7 @@ not-ended mark before s e useful own =
     not-false (markKept mark) (sym (ap (λ (b : Bool). not (markKept mark) && b) (ap before own ∙ useful) ∙ and-true (not (markKept mark))) ∙ e)
 
 -- two slots lose no set unless one of them ends the use of a set that is useful before both
-pub both-keep : (live mid next : List ℕ) (x y : ℕ) → mid ≡ wordsOf (passed x (member live)) → next ≡ wordsOf (passed y (member mid))
+pub both-keep : (live mid next : List ℕ) (x y : ℕ) → mid ≡ wordsOf (usefulAfter x (member live)) → next ≡ wordsOf (usefulAfter y (member mid))
     → (markEnds x (member live) || markEnds y (member live)) ≡ false → Subset (member live) (member next)
 both-keep live mid next x y first second none s h e =
     let each = neither (markEnds x (member live)) (markEnds y (member live)) none in
@@ -122,26 +122,26 @@ module _ (c x : ℕ) (keep : Bool) where
     where
       go : Dec (x ≡ 0) → markOf c x keep ≤ 512
       go (yes z) = omega (arith, mark-none c x keep z)
-      go (no z) = omega (arith, mark-load c x keep z, mod-lt (x - 1) some, when-bound keep {a = 1} {m = 1} (omega arith))
+      go (no z) = omega (arith, mark-load c x keep z, mod-lt (x - 1) some, onlyIf-bound keep {a = 1} {m = 1} (omega arith))
 
   module _ (load : x ≡ 0 → ⊥) where
     mark-some : markOf c x keep ≡ 0 → ⊥
     mark-some e = omega (arith, mark-load c x keep load)
 
     mark-set : markSet (markOf c x keep) ≡ slotSet c x
-    mark-set = omega (arith, mark-load c x keep load, when-bound keep {a = 1} {m = 1} (omega arith))
+    mark-set = omega (arith, mark-load c x keep load, onlyIf-bound keep {a = 1} {m = 1} (omega arith))
 
   mark-kept : (x ≡ 0 → ⊥) → markKept (markOf c x keep) ≡ keep
   mark-kept load = ap (λ (m : ℕ). eqb (m % 2) 0) (mark-load c x keep load) ∙ go keep
     where
-      go : (b : Bool) → eqb ((1 + 2 * slotSet c x + when b 1) % 2) 0 ≡ b
+      go : (b : Bool) → eqb ((1 + 2 * slotSet c x + onlyIf b 1) % 2) 0 ≡ b
       go true = let even : (1 + 2 * slotSet c x + 1) % 2 ≡ 0 = omega arith in eq-eqb ((1 + 2 * slotSet c x + 1) % 2) 0 even
       go false = let odd : (1 + 2 * slotSet c x + 0) % 2 ≡ 1 = omega arith in ap (λ (k : ℕ). eqb k 0) odd
 
-  mark-passed : (before : ℕ → Bool) (s : ℕ) → passed (markOf c x keep) before s ≡ cond (loadsInto c s x) keep (before s)
-  mark-passed before s = go (ℕ-discrete x 0)
+  mark-after : (before : ℕ → Bool) (s : ℕ) → usefulAfter (markOf c x keep) before s ≡ cond (loadsInto c s x) keep (before s)
+  mark-after before s = go (ℕ-discrete x 0)
     where
-      go : Dec (x ≡ 0) → passed (markOf c x keep) before s ≡ cond (loadsInto c s x) keep (before s)
+      go : Dec (x ≡ 0) → usefulAfter (markOf c x keep) before s ≡ cond (loadsInto c s x) keep (before s)
       go (yes z) = rw (mark-none c x keep z, into-none c s x z)
       go (no z) = rw (ne-eqb (markOf c x keep) 0 (mark-some z), mark-set z, mark-kept z, ne-eqb x 0 z)
 
@@ -170,11 +170,11 @@ module _ (l : ℕ → ℕ) (c n : ℕ) where
     here : (s : ℕ) → s < 256 → member live s ≡ usefulBefore l c n e s
     here s k = ap (λ (w : List ℕ). member w s) now ∙ member-wordsOf (usefulBefore l c n e) s k
 
-    slot-next : wordsOf (passed mark (member live)) ≡ wordsOf (usefulBefore l c n (e + 1))
+    slot-next : wordsOf (usefulAfter mark (member live)) ≡ wordsOf (usefulBefore l c n (e + 1))
     slot-next =
         wordsOf-cong _ _
         (λ s k. ap₂ (λ (m : ℕ) (b : Bool). cond (not (eqb m 0) && eqb (markSet m) s) (markKept m) b) is (here s k)
-        ∙ mark-passed c (l e) (kept l c n e) (usefulBefore l c n e) s ∙ sym (useful-next l c n e s h))
+        ∙ mark-after c (l e) (kept l c n e) (usefulBefore l c n e) s ∙ sym (useful-next l c n e s h))
 
     slot-misses : markMisses mark (member live) ≡ slotMisses l c e
     unfolding slotMisses
@@ -218,7 +218,7 @@ module _ (t : Trace) (cached : memory (t .words) ≡ 2) where
     marks-bound i h = omega (arith, marked i (omega arith) h, mark-bound sets (loadAt t i) (kept (loadAt t) sets (2 * t .len) i) some few)
 
     module _ (p : ℕ) (h : p < t .len) (live mid : List ℕ) (now : live ≡ wordsOf (useful t p))
-        (fetched : mid ≡ wordsOf (passed (getD marks (2 * p) 0) (member live))) where
+        (fetched : mid ≡ wordsOf (usefulAfter (getD marks (2 * p) 0) (member live))) where
       live-is : live ≡ wordsOf (before (2 * p))
       live-is = now ∙ wordsOf-cong _ _ (λ s k. useful-slot t cached p s (omega arith))
 
@@ -234,13 +234,13 @@ module _ (t : Trace) (cached : memory (t .words) ≡ 2) where
       twice : 2 * p + 1 + 1 ≡ 2 * (p + 1)
       twice = omega arith
 
-      pub point-next : wordsOf (passed (getD marks (2 * p + 1) 0) (member mid)) ≡ wordsOf (useful t (p + 1))
+      pub point-next : wordsOf (usefulAfter (getD marks (2 * p + 1) 0) (member mid)) ≡ wordsOf (useful t (p + 1))
       point-next =
           slot-next (loadAt t) sets (2 * t .len) some few (2 * p + 1) (getD marks (2 * p + 1) 0) (omega arith) second-mark mid mid-is
           ∙ wordsOf-cong _ _ (λ s k. ap (λ (e : ℕ). before e s) twice ∙ sym (useful-slot t cached (p + 1) s (omega arith)))
 
-      pub point-misses : (n k k' : ℕ) → n ≡ countTo (slotMisses (loadAt t) sets) (2 * p) → k ≡ when (markMisses (getD marks (2 * p) 0) (member live)) 1
-          → k' ≡ when (markMisses (getD marks (2 * p + 1) 0) (member mid)) 1 → n + (k + k') ≡ countTo (slotMisses (loadAt t) sets) (2 * (p + 1))
+      pub point-misses : (n k k' : ℕ) → n ≡ countTo (slotMisses (loadAt t) sets) (2 * p) → k ≡ onlyIf (markMisses (getD marks (2 * p) 0) (member live)) 1
+          → k' ≡ onlyIf (markMisses (getD marks (2 * p + 1) 0) (member mid)) 1 → n + (k + k') ≡ countTo (slotMisses (loadAt t) sets) (2 * (p + 1))
       point-misses n k k' e ek ek' =
           let misses = slotMisses (loadAt t) sets in
           let first = slot-misses (loadAt t) sets (2 * t .len) some few (2 * p) (getD marks (2 * p) 0) (omega arith) first-mark live live-is in
@@ -248,8 +248,8 @@ module _ (t : Trace) (cached : memory (t .words) ≡ 2) where
           omega (
             arith,
             e,
-            ek ∙ ap (λ (b : Bool). when b 1) first,
-            ek' ∙ ap (λ (b : Bool). when b 1) second,
+            ek ∙ ap (λ (b : Bool). onlyIf b 1) first,
+            ek' ∙ ap (λ (b : Bool). onlyIf b 1) second,
             countTo-next misses (2 * p),
             countTo-next misses (2 * p + 1),
             ap (countTo misses) twice,

@@ -9,9 +9,9 @@ use mathlib.Core.Logic.{_⊎_, inl, inr, ⊎-elim}
 use native.Mathlib.Nat.{le-refl, not-suc-le-zero}
 use native.Mathlib.Omega.{arith}
 use lib.ListN.{getD}
-use Rattle.folds.specs.Folds.{when}
+use Rattle.folds.specs.Folds.{onlyIf}
 use Rattle.folds.specs.Stored.{Stored}
-use Rattle.folds.proofs.Numbers.{le-or-lt, when-bound}
+use Rattle.folds.proofs.Numbers.{le-or-lt, onlyIf-bound}
 use Rattle.bitset.specs.Bits.{member, wordsOf}
 use Rattle.bitset.specs.Records.{recordAt}
 use Rattle.bitset.proofs.Sets.{member-wordsOf}
@@ -21,7 +21,7 @@ use Rattle.useful.specs.Recorded.{Subset, Recorded}
 
 -- what a turn makes of the number of records and of `fresh`: the next point has all sets of this one unless `lost`, and no other unless `came`
 abbrev pub more : ℕ → Bool → Bool → ℕ
-more m fresh lost = m + when (fresh && lost) 1
+more m fresh lost = m + onlyIf (fresh && lost) 1
 
 abbrev pub pending : Bool → Bool → Bool → Bool
 pending fresh lost came = (fresh && not lost) || came
@@ -87,27 +87,27 @@ module _ (f : ℕ → ℕ → Bool) where
       recorded : (q : ℕ) → q < more m fresh lost → (p' : ℕ) × (p' < p + 1) × (recordAt lives' q ≡ wordsOf (f p'))
       recorded q l = go (fresh && lost) new l (le-or-lt m q)
         where
-          go : (test : Bool) → (test ≡ true → recordAt lives' m ≡ wordsOf (f p)) → q < m + when test 1 → (m ≤ q) ⊎ (q < m)
+          go : (test : Bool) → (test ≡ true → recordAt lives' m ≡ wordsOf (f p)) → q < m + onlyIf test 1 → (m ≤ q) ⊎ (q < m)
               → (p' : ℕ) × (p' < p + 1) × (recordAt lives' q ≡ wordsOf (f p'))
-          go test new l (inr less) = let at = before .point q less in let passed : at .0 < p = at .1 in (at .0, omega arith, same q less ∙ at .2)
+          go test new l (inr less) = let at = before .point q less in let earlier : at .0 < p = at .1 in (at .0, omega arith, same q less ∙ at .2)
           go true new l (inl past) = let here : q ≡ m = omega arith in (p, omega arith, ap (recordAt lives') here ∙ new refl)
           go false new l (inl past) = absurd (omega arith)
 
       recording-next : Recording lives' (more m fresh lost) (pending fresh lost came) (p + 1)
       recording-next = record {
-        few = omega (arith, before .few, when-bound (fresh && lost) {a = 1} {m = 1} (le-refl 1));
+        few = omega (arith, before .few, onlyIf-bound (fresh && lost) {a = 1} {m = 1} (le-refl 1));
         point = recorded;
         cover = covered;
       }
 
   -- one turn of the code, which writes point p where it is to be a record: `live` and `next` are the words of points p and p + 1
   pub recording-turn : (lives lives' live next : List ℕ) (m m' p : ℕ) (fresh lost came : Bool)
-      → live ≡ wordsOf (f p) → next ≡ wordsOf (f (p + 1)) → Stored (λ k. getD live k 0) (4 * m) (when (fresh && lost) 4) lives lives' → m' ≡ more m fresh lost
+      → live ≡ wordsOf (f p) → next ≡ wordsOf (f (p + 1)) → Stored (λ k. getD live k 0) (4 * m) (onlyIf (fresh && lost) 4) lives lives' → m' ≡ more m fresh lost
       → (lost ≡ false → Subset (member live) (member next)) → (came ≡ false → Subset (member next) (member live))
       → Recording lives m fresh p → Recording lives' m' (pending fresh lost came) (p + 1)
   recording-turn lives lives' live next m m' p fresh lost came el en stored em keeps adds before =
       subst (λ (k : ℕ). Recording lives' k (pending fresh lost came) (p + 1)) (sym em)
-      (recording-next lives lives' m p (λ q l. record-other (when-bound (fresh && lost) (le-refl 4)) stored q (λ e. omega arith)) fresh lost came
+      (recording-next lives lives' m p (λ q l. record-other (onlyIf-bound (fresh && lost) (le-refl 4)) stored q (λ e. omega arith)) fresh lost came
       (λ test. record-words m (rw test at stored) (f p) el)
       (λ k s l e. sym (there s l) ∙ keeps k s l (here s l ∙ e))
       (λ k s l e. sym (here s l) ∙ adds k s l (there s l ∙ e))

@@ -21,21 +21,21 @@ ghost use Rattle.trace.specs.Places.{traceAt, Lies};
 ghost use Rattle.useful.specs.Recorded.{Recorded};
 
 // What a survey of a trace found: its bus accesses, and the number of points recorded.
-pub struct Surveyed {
+pub struct Scanned {
     pub md: u32,
     pub records: usize,
 }
 
 // MD of a trace; its evicting cache blocks are added to `ecb`, and the useful sets of some of its points recorded in `lives`, four words a
 // record, so that every point's useful sets are among those of a recorded point. Without a cache nothing is evicted or useful.
-pub fn survey(
+pub fn scan_trace(
     board: &[u32],
     start: usize,
     len: usize,
     ecb: &mut [u64],
     marks: &mut [u32],
     lives: &mut [u64],
-) -> Surveyed
+) -> Scanned
     requires { ⌜ (Sound (now board)) × (Lies (now board) start len) × (length (now ecb) ≡ 4)
         × (2 * len ≤ length (now marks)) × (4 * len ≤ length (now lives)) ⌝ }
     ensures { λ r. ⌜ (r .md ≡ traceMD (traceAt (now (board .entry)) start len))
@@ -46,7 +46,7 @@ pub fn survey(
     let kind = memory(board);
     match kind {
         2 => under_cache(board, start, len, ecb, marks, lives),
-        _ => Surveyed {
+        _ => Scanned {
             md: uncached_md(board, start, len),
             records: 0,
         },
@@ -61,7 +61,7 @@ fn under_cache(
     ecb: &mut [u64],
     marks: &mut [u32],
     lives: &mut [u64],
-) -> Surveyed
+) -> Scanned
     requires { ⌜ (Sound (now board)) × (Lies (now board) start len) × (length (now ecb) ≡ 4)
         × (2 * len ≤ length (now marks)) × (4 * len ≤ length (now lives)) ⌝ }
     requires { ⌜ at.memory (now board) ≡ 2 ⌝ }
@@ -88,7 +88,7 @@ fn under_cache(
         fresh = fresh & !lost | came;
         p += 1;
     }
-    Surveyed {
+    Scanned {
         md: writes + missed,
         records: m,
     }

@@ -8,13 +8,13 @@ ghost use mathlib.Core.Path.{_≡_};
 ghost use mathlib.Core.Bool.{false};
 ghost use Prim.Native.Nat.{_≤_};
 ghost use lib.ListN.{length};
-ghost use Rattle.folds.specs.Folds.{when};
+ghost use Rattle.folds.specs.Folds.{onlyIf};
 ghost use Rattle.bitset.specs.Bits.{member, wordsOf};
 ghost use Rattle.useful.specs.Recorded.{Subset};
-ghost use Rattle.marks.specs.Marks.{markEnds, markMisses, passed};
+ghost use Rattle.marks.specs.Marks.{markEnds, markMisses, usefulAfter};
 
 // What a slot did: 1 where its load missed, and whether a set came up.
-pub struct Passed {
+pub struct SlotEffect {
     pub missed: u32,
     pub came: bool,
 }
@@ -31,14 +31,14 @@ pub fn ends(live: &[u64], mark: u32) -> bool
 }
 
 // Passes a slot: `live` has the useful sets before it, and then those after it.
-pub fn pass_slot(live: &mut [u64], mark: u32) -> Passed
+pub fn pass_slot(live: &mut [u64], mark: u32) -> SlotEffect
     requires { ⌜ (mark ≤ 512) × (length (now live) ≡ 4) ⌝ }
-    ensures { λ r. ⌜ (now (live .exit) ≡ wordsOf (passed mark (member (now (live .entry)))))
-        × (r .missed ≡ when (markMisses mark (member (now (live .entry)))) 1)
+    ensures { λ r. ⌜ (now (live .exit) ≡ wordsOf (usefulAfter mark (member (now (live .entry)))))
+        × (r .missed ≡ onlyIf (markMisses mark (member (now (live .entry)))) 1)
         × (r .came ≡ false → Subset (member (now (live .exit))) (member (now (live .entry)))) × (r .missed ≤ 1) ⌝ }
 {
     if mark == 0 {
-        return Passed {
+        return SlotEffect {
             missed: 0,
             came: false,
         };
@@ -48,10 +48,10 @@ pub fn pass_slot(live: &mut [u64], mark: u32) -> Passed
     let missed = one_if(!was);
     if mark % 2 == 0 {
         add_to(live, s);
-        return Passed { missed, came: !was };
+        return SlotEffect { missed, came: !was };
     }
     take_from(live, s);
-    Passed {
+    SlotEffect {
         missed,
         came: false,
     }

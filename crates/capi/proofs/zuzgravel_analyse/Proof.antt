@@ -21,7 +21,7 @@ returns c =
     let answer = d .analyse .ensures .1 in
     let reply = replies-as answerCode answerWords _ _ (answer .0) (c .of-answer .ensures) in
     let times = answer .1 .0 ∙ ap (λ r. timesAfter (a .board .now) r (a .times .now)) (answer .0) in
-    let records = filled-records _ _ _ (counts .0) (filled .fill .ensures) in
+    let records = filled-records _ _ _ (counts .0) (filled .fill-words .ensures) in
     (reply .0, (reply .1, (times, (records, (answer .1 .1, λ passed. demand3-met (a .board .now) (a .times .now) _ _ passed _ _ refl times)))))
 
 pub zuzgravel-analyse-spec : {M : Type 1} → statement M

@@ -22,4 +22,4 @@ zuzgravel-figures-spec =
     let filled = c .before .before .before .before in
     let d = filled .before .before .before .before .before in
     let reply = replies-as outcomeCode outcomeWords _ _ (d .figures .ensures .1) (c .of-outcome .ensures) in
-    (reply .0, (reply .1, filled-records _ _ _ (d .figures .ensures .0 .0) (filled .fill .ensures)))))
+    (reply .0, (reply .1, filled-records _ _ _ (d .figures .ensures .0 .0) (filled .fill-words .ensures)))))

@@ -7,13 +7,13 @@ use native.Mathlib.Omega.{arith}
 use lib.ListN.{length, take, length-set}
 use lib.Seq.{length-take-le}
 use Rattle.folds.specs.Folds.{tabulate}
-use Rattle.input.specs.Input.{wordAt, wordsIn}
+use Rattle.input.specs.Input.{wordAtByte, wordsIn}
 use Rattle.input.proofs.Words.{tabulate-turn}
 use Rattle.input.proofs.decode.Statement.{statement}
 use Rattle.input.proofs.decode.Tie as tie
 
 abbrev Inv-loop : tie.InvT-loop
-Inv-loop bytes words₀ n k₀ words k = (k ≤ n) × (length words ≡ length words₀) × (take k words ≡ tabulate (λ j. wordAt bytes (4 * j)) k)
+Inv-loop bytes words₀ n k₀ words k = (k ≤ n) × (length words ≡ length words₀) × (take k words ≡ tabulate (λ j. wordAtByte bytes (4 * j)) k)
 
 abbrev μ-loop : tie.MeasureT-loop
 μ-loop bytes words₀ n k₀ words k = n - k

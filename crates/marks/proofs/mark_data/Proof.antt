@@ -8,7 +8,7 @@ use mathlib.Core.Path.{_≡_, sym, ap, _∙_}
 use native.Mathlib.Omega.{arith}
 use denote.Ref.{now}
 use lib.ListN.{set}
-use Rattle.folds.specs.Folds.{when}
+use Rattle.folds.specs.Folds.{onlyIf}
 use Rattle.board.specs.Layout.{kindOf}
 use Rattle.trace.specs.Cache.{setOf}
 use Rattle.marks.specs.Marks.{markBy, withLoad, dataTouches}
@@ -23,7 +23,7 @@ executes c =
     let a = start .args in
     let sets = a .cache .sets in
     let kind : kindOf (a .w) ≡ 0 = omega arith in (
-      sym (ap (λ (b : Bool). when b 1) (ne-eqb (kindOf (a .w)) 2 (λ k. omega arith))),
+      sym (ap (λ (b : Bool). onlyIf b 1) (ne-eqb (kindOf (a .w)) 2 (λ k. omega arith))),
       skip-first sets (now (a .first)) (a .w) (λ k. omega arith),
       join-none (now (a .ecb)) (dataTouches sets (a .w)) (start .pre .2) (c .before .before .before .slice-known .given) (λ s. rw (eq-eqb (kindOf (a .w)) 0 kind)),
       ap (set (now (a .marks)) (a .e)) (skip-mark sets (now (a .first)) (a .w) (λ k. omega arith)),
@@ -37,7 +37,7 @@ reads c =
     let a = taken .before .before .before .before .before .args in
     let sets = a .cache .sets in
     let slot = read-load (a .w) (taken .block .ensures .0) (omega arith) in (
-      sym (ap (λ (b : Bool). when b 1) (ne-eqb (kindOf (a .w)) 2 (λ k. omega arith))),
+      sym (ap (λ (b : Bool). onlyIf b 1) (ne-eqb (kindOf (a .w)) 2 (λ k. omega arith))),
       loaded .mark-load .ensures .0 ∙ ap (withLoad sets (now (a .first))) slot,
       loaded .mark-load .ensures .1 ∙ touch-data (now (a .ecb)) sets (a .w) (ap (setOf sets) (taken .block .ensures .0)) (λ k. omega arith),
       loaded .mark-load .ensures .2 ∙ ap (λ (x : ℕ). set (now (a .marks)) (a .e) (markBy sets (now (a .first)) x)) slot,
@@ -51,7 +51,7 @@ writes c =
     let taken = touched .before .before in
     let a = taken .before .before .before .before .before .before .args in
     let sets = a .cache .sets in (
-      sym (ap (λ (b : Bool). when b 1) (eq-eqb (kindOf (a .w)) 2 (omega arith))),
+      sym (ap (λ (b : Bool). onlyIf b 1) (eq-eqb (kindOf (a .w)) 2 (omega arith))),
       skip-first sets (now (a .first)) (a .w) (λ k. omega arith),
       touched .add-to .ensures ∙ touch-words (now (a .ecb)) (s .result)
           ∙ touch-data (now (a .ecb)) sets (a .w) (s .ensures .0 ∙ ap (setOf sets) (taken .block2 .ensures .0)) (λ k. omega arith),

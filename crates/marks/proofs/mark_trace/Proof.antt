@@ -8,7 +8,7 @@ use native.Mathlib.Omega.{arith}
 use denote.Ref.{now}
 use lib.Dec.{eqb}
 use lib.ListN.{length}
-use Rattle.folds.specs.Folds.{when, countTo}
+use Rattle.folds.specs.Folds.{onlyIf, countTo}
 use Rattle.folds.proofs.Folds.{countTo-none, countTo-next, countTo-bound}
 use Rattle.bitset.specs.Bits.{member, wordsOf}
 use Rattle.bitset.proofs.Sets.{wordsOf-length, words-ext}
@@ -89,7 +89,7 @@ again c =
     let w = worked .work-word in
     let block = fetched .fetch-word in
     let touched = touches t (a .cache .sets) in
-    let written = accessed .mark-data .ensures .0 ∙ ap (λ (x : ℕ). when (eqb (kindOf x) 2) 1) (w .ensures) in (
+    let written = accessed .mark-data .ensures .0 ∙ ap (λ (x : ℕ). onlyIf (eqb (kindOf x) 2) 1) (w .ensures) in (
       omega arith,
       omega (arith, at .loop .inv .1, ap (countTo (writes t)) next, countTo-next (writes t) p, written),
       loaded .mark-load .kept .1 .1 .1 .1 .1 .0 ∙ accessed .mark-data .kept .1 .1 .1 .1 .1 .0 ∙ at .loop .inv .2,

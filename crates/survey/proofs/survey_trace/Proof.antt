@@ -8,7 +8,7 @@ use native.Mathlib.Omega.{arith}
 use borrow.Author.Needs.{needs}
 use lib.Dec.{eqb}
 use lib.ListN.{length, getD}
-use Rattle.folds.specs.Folds.{when}
+use Rattle.folds.specs.Folds.{onlyIf}
 use Rattle.folds.proofs.Lists.{fillTo-cong}
 use Rattle.bitset.specs.Bits.{member, wordsOf}
 use Rattle.board.specs.Layout.{core, traceLength}
@@ -33,16 +33,16 @@ the-trace c = starts-trace _ _ _ (c .before .before .before .pre .1) _ (len-know
 lies : tie.Need-pd-requires
 lies c κs = starts-lies _ _ _ (c .before .before .before .pre .1) _ (len-known c)
 
-ecb-length : (c : tie.After-survey-arg3) → length (now (c .before .before .before .before .before .before .before .args .ecb)) ≡ 4
+ecb-length : (c : tie.After-scan-trace-arg3) → length (now (c .before .before .before .before .before .before .before .args .ecb)) ≡ 4
 ecb-length c = search needs
 
-marks-length : (c : tie.After-survey-arg3) → length (now (c .before .before .before .before .before .before .before .args .marks)) ≡ 2048
+marks-length : (c : tie.After-scan-trace-arg3) → length (now (c .before .before .before .before .before .before .before .args .marks)) ≡ 2048
 marks-length c = search needs
 
-lives-length : (c : tie.After-survey-arg3) → length (now (c .before .before .before .before .before .before .before .args .lives)) ≡ 4096
+lives-length : (c : tie.After-scan-trace-arg3) → length (now (c .before .before .before .before .before .before .before .args .lives)) ≡ 4096
 lives-length c = search needs
 
-asks : tie.Need-survey-requires
+asks : tie.Need-scan-trace-requires
 asks c κs =
     let read = c .before .before .before .before in
     let start = read .before .before .before in
@@ -56,21 +56,21 @@ raises c κs =
     let read = lent .before .before .before .before in
     let start = read .before .before .before in
     let lie = starts-lies _ _ _ (start .pre .1) _ (len-known read) in
-    (start .pre .0, start .pre .2, omega (arith, found .survey .ensures .1 .few, found .survey .ensures .4, lives-length lent, lie .short))
+    (start .pre .0, start .pre .2, omega (arith, found .scan-trace .ensures .1 .few, found .scan-trace .ensures .4, lives-length lent, lie .short))
 
 -- PD, MD and the evicting cache blocks
-three : (c : tie.After-survey)
+three : (c : tie.After-scan-trace)
     → let read = c .before .before .before .before .before in
     let a = read .before .before .before .args in
     let t = traceOf (now (a .board)) (a .at .trace) in
-    (c .before .before .before .before .pd .result ≡ tracePD t) × (c .survey .result .md ≡ traceMD t)
-    × (c .survey .last .1 .1 .1 .0 ≡ wordsOf (λ s. member (now (a .ecb)) s || evicts t s))
+    (c .before .before .before .before .pd .result ≡ tracePD t) × (c .scan-trace .result .md ≡ traceMD t)
+    × (c .scan-trace .last .1 .1 .1 .0 ≡ wordsOf (λ s. member (now (a .ecb)) s || evicts t s))
 three c =
     let read = c .before .before .before .before .before in
     let t = the-trace read in (
       c .before .before .before .before .pd .ensures ∙ ap tracePD t,
-      c .survey .ensures .0 ∙ ap traceMD t,
-      c .survey .ensures .2 ∙ ap (λ (u : Trace). wordsOf (λ s. member (now (read .before .before .before .args .ecb)) s || evicts u s)) t,
+      c .scan-trace .ensures .0 ∙ ap traceMD t,
+      c .scan-trace .ensures .2 ∙ ap (λ (u : Trace). wordsOf (λ s. member (now (read .before .before .before .args .ecb)) s || evicts u s)) t,
     )
 
 returns : tie.Need-returns
@@ -85,8 +85,8 @@ returns c =
       all .2,
       λ e. c .raise .ensures
           ∙ fillTo-cong _ _ (now (a .row)) (a .i)
-          (λ j h. ap (λ (x : ℕ). max (getD (now (a .row)) j 0) (when (eqb (core b (a .i)) (core b j)) x))
-          (mostCommon-is _ _ _ (found .survey .ensures .1) (evictedBy b j) ∙ ap (λ (u : Trace). mostUseful u (evictedBy b j)) (the-trace read))),
+          (λ j h. ap (λ (x : ℕ). max (getD (now (a .row)) j 0) (onlyIf (eqb (core b (a .i)) (core b j)) x))
+          (mostCommon-is _ _ _ (found .scan-trace .ensures .1) (evictedBy b j) ∙ ap (λ (u : Trace). mostUseful u (evictedBy b j)) (the-trace read))),
     )
 
 plain : tie.Need-returns-2

@@ -94,8 +94,8 @@ stored c = c .before .before .before .before
 abbrev fetched : tie.After-pass-slot2 Inv μ → tie.After-pass-slot Inv μ
 fetched c = c .before .before .before
 
-abbrev passed : tie.After-struct-known2 Inv μ → tie.After-pass-slot2 Inv μ
-passed c = c .before .before .before
+abbrev usefulAfter : tie.After-struct-known2 Inv μ → tie.After-pass-slot2 Inv μ
+usefulAfter c = c .before .before .before
 
 small : (c : tie.In-loop Inv μ) → c .before .loop .p < 1024
 small c = omega (arith, c .loop-test .taken, top (c .before) .pre .0 .1 .short)
@@ -129,7 +129,7 @@ read-requires c κs = (read-bound (turn (lost (c .before .before))), ap length (
 
 add-missed : tie.Need-add-missed-2 Inv μ
 add-missed c =
-    let read = passed c in
+    let read = usefulAfter c in
     let here = turn (lost (fetched read)) in
     let at = here .before in
     omega (
@@ -143,7 +143,7 @@ add-missed c =
 
 again : tie.Need-loop-again Inv μ
 again c =
-    let read = passed (c .before .before) in
+    let read = usefulAfter (c .before .before) in
     let fetch = fetched read in
     let found = lost fetch in
     let at = turn found .before in
@@ -220,6 +220,6 @@ under-cache-spec =
     (λ c κs. (read-bound (c .before .before .before .before .before), four (c .before .before .before .before .before .before))) write-requires
     (λ c. sym (four (turn (c .before .before .before .before .before) .before)))
     (λ c κs. let here = turn (c .before .before .before .before .before) in (fetch-bound here, four (here .before))) read-four read-requires
-    (λ c. search needs) add-missed (λ c. omega (arith, small (turn (lost (fetched (passed (c .before .before)))))))
-    (λ c. omega (arith, turn (lost (fetched (passed (c .before .before)))) .loop-test .taken)) again add-md (λ c. search needs) (λ c. search needs)
+    (λ c. search needs) add-missed (λ c. omega (arith, small (turn (lost (fetched (usefulAfter (c .before .before)))))))
+    (λ c. omega (arith, turn (lost (fetched (usefulAfter (c .before .before)))) .loop-test .taken)) again add-md (λ c. search needs) (λ c. search needs)
     (λ c. search needs) returns)

@@ -6,7 +6,7 @@ use lib.Dec.{eqb}
 use lib.ListN.{getD}
 use mathlib.Core.Path.{ap}
 use Prim.Native.Nat.{ℕ, _+_, _-_, _≤_, _<_}
-use Rattle.folds.specs.Folds.{when, sumTo}
+use Rattle.folds.specs.Folds.{onlyIf, sumTo}
 use Rattle.board.specs.Layout.{core}
 use Rattle.sums.specs.Limits.{mostCores}
 use Rattle.sums.specs.Inputs.{Holds}
@@ -18,7 +18,7 @@ use Rattle.carried.proofs.tables.by_core.Tie as tie
 
 abbrev Inv-loop : tie.InvT-loop
 Inv-loop board row times t x j table₀ k₀ table k =
-    (k ≤ j + 1) × Holds mostCores (λ y. sumTo (λ m. when (eqb (core board m) (y + 1)) (carriedOff board times t x j m)) k) table
+    (k ≤ j + 1) × Holds mostCores (λ y. sumTo (λ m. onlyIf (eqb (core board m) (y + 1)) (carriedOff board times t x j m)) k) table
 
 abbrev μ-loop : tie.MeasureT-loop
 μ-loop board row times t x j table₀ k₀ table k = j + 1 - k
@@ -28,7 +28,7 @@ abbrev off : tie.Start Inv-loop μ-loop → ℕ → ℕ
 off s m = carriedOff (s .args .board .now) (s .args .times .now) (s .args .t) (s .args .x) (s .args .j) m
 
 abbrev term : tie.Start Inv-loop μ-loop → ℕ → ℕ → ℕ
-term s y m = when (eqb (core (s .args .board .now) m) (y + 1)) (off s m)
+term s y m = onlyIf (eqb (core (s .args .board .now) m) (y + 1)) (off s m)
 
 loop-holds : tie.Need-loop-holds Inv-loop μ-loop
 loop-holds c = (omega arith, table-none (term (c .before .before .before)) mostCores)

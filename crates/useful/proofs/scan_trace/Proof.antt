@@ -1,4 +1,4 @@
--- `useful::survey` meets its contract: without a cache nothing is evicted or useful.
+-- `useful::scan_trace` meets its contract: without a cache nothing is evicted or useful.
 -- Assumes nothing.
 use borrow.Author.Needs.{needs}
 use mathlib.Core.Path.{_≡_, refl}
@@ -10,8 +10,8 @@ use Rattle.trace.specs.Places.{traceAt}
 use Rattle.trace.proofs.Sets.{evicts-plain, useful-plain}
 use Rattle.marks.proofs.Evicting.{join-none}
 use Rattle.useful.proofs.Recording.{recorded-none}
-use Rattle.useful.proofs.survey.Statement.{statement}
-use Rattle.useful.proofs.survey.Tie as tie
+use Rattle.useful.proofs.scan_trace.Statement.{statement}
+use Rattle.useful.proofs.scan_trace.Tie as tie
 
 plain : tie.Need-returns-2
 plain c =
@@ -27,8 +27,8 @@ plain c =
       refl,
     )
 
-pub survey-spec : {M : Type 1} → statement M
-survey-spec =
+pub scan-trace-spec : {M : Type 1} → statement M
+scan-trace-spec =
     tie.close
     (tie.spec (λ c κs. search needs) (λ c κs. search needs) (λ c κs. search needs) (λ c. search needs) (λ c. search needs) (λ c. search needs)
     (λ c. search needs) plain)

@@ -1,4 +1,4 @@
--- `replies::table::fill` meets its contract. The invariant: the buffer with the words passed, and the words of the record that w is in.
+-- `replies::table::fill_words` meets its contract. The invariant: the buffer with the words passed, and the words of the record that w is in.
 -- Assumes nothing.
 use Prim.Native.Nat.{_-_, _/_, _%_, _≤_}
 use mathlib.Core.Logic.{⊎-elim}
@@ -13,8 +13,8 @@ use Rattle.folds.proofs.Loops.{at-end, fillTo-turn}
 use Rattle.figures.specs.Figures.{figureOf}
 use Rattle.replies.specs.Records.{recordWords, figureWords, tableWord}
 use Rattle.replies.proofs.Records.{Within, within-next}
-use Rattle.replies.proofs.table.fill.Statement.{statement}
-use Rattle.replies.proofs.table.fill.Tie as tie
+use Rattle.replies.proofs.table.fill_words.Statement.{statement}
+use Rattle.replies.proofs.table.fill_words.Tie as tie
 
 abbrev Inv : tie.InvT-loop
 Inv b n words sets records₀ end current₀ w₀ records current w = (w ≤ end) × Within b current w × (records ≡ fillTo (tableWord b) w records₀)
@@ -58,8 +58,8 @@ returns c =
     let a = at .before .before .before .before .args in
     at-end (λ w. fillTo (tableWord (now (a .board))) w (now (a .records))) (at .loop .inv .2) (omega arith) (omega arith)
 
-pub fill-spec : {M : Type 1} → statement M
-fill-spec =
+pub fill-words-spec : {M : Type 1} → statement M
+fill-words-spec =
     tie.close
     (tie.spec Inv μ (λ c. search needs) holds ready (λ c κs. search needs) (λ c. search needs) (λ c. search needs) (λ c. search needs) stores
     (λ c. search needs) (λ c. search needs) again same-length returns)

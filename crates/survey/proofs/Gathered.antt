@@ -24,15 +24,15 @@ largest-turn : (F : Trace → ℕ) (b : List ℕ) (k r trace start : ℕ) {acc x
 largest-turn F b k r trace start at e h = maxTo-turn (λ i. F (taskTrace b k i)) r e (h ∙ ap (λ (i : ℕ). F (traceOf b i)) (at .known))
 
 -- the largest PD and MD, the sets joined and, where rows are wanted, the row raised
-pub record Passed (b : List ℕ) (i r : ℕ) (rows : Bool) (pd md : ℕ) (ecb entry row : List ℕ) : Type 0 where
+pub record Gathered (b : List ℕ) (i r : ℕ) (rows : Bool) (pd md : ℕ) (ecb entry row : List ℕ) : Type 0 where
   pub largest-pd : pd ≡ maxTo (λ q. tracePD (taskTrace b i q)) r
   pub largest-md : md ≡ maxTo (λ q. traceMD (taskTrace b i q)) r
   pub joined : ecb ≡ wordsOf (λ s. anyTo (λ q. evicts (taskTrace b i q) s) r)
   pub higher : rows ≡ true → row ≡ raised (addedBy b i r) i entry
 
 module _ (b : List ℕ) (i : ℕ) (rows : Bool) (entry : List ℕ) where
-  pub passed-none : (ecb : List ℕ) → ecb ≡ wordsOf (λ s. false) → Passed b i 0 rows 0 0 ecb entry entry
-  passed-none ecb e = record {
+  pub gathered-none : (ecb : List ℕ) → ecb ≡ wordsOf (λ s. false) → Gathered b i 0 rows 0 0 ecb entry entry
+  gathered-none ecb e = record {
     largest-pd = sym (maxTo-none _);
     largest-md = sym (maxTo-none _);
     joined = e ∙ joined-none (λ q s. evicts (taskTrace b i q) s);
@@ -40,13 +40,13 @@ module _ (b : List ℕ) (i : ℕ) (rows : Bool) (entry : List ℕ) where
   }
 
   -- one trace more
-  pub passed-next : (r trace start pd md pd' md' : ℕ) (ecb ecb' row row' : List ℕ) {x y : ℕ} → At b i r trace start
-      → Passed b i r rows pd md ecb entry row → x ≡ tracePD (traceOf b trace) → y ≡ traceMD (traceOf b trace)
+  pub gathered-next : (r trace start pd md pd' md' : ℕ) (ecb ecb' row row' : List ℕ) {x y : ℕ} → At b i r trace start
+      → Gathered b i r rows pd md ecb entry row → x ≡ tracePD (traceOf b trace) → y ≡ traceMD (traceOf b trace)
       → ecb' ≡ wordsOf (λ s. member ecb s || evicts (traceOf b trace) s)
       → (rows ≡ true → row' ≡ raised (onCoreOf b i (λ j. mostUseful (traceOf b trace) (evictedBy b j))) i row)
       → pd' ≡ max pd x → md' ≡ max md y
-      → Passed b i (r + 1) rows pd' md' ecb' entry row'
-  passed-next r trace start pd md pd' md' ecb ecb' row row' at before x y e q p m = record {
+      → Gathered b i (r + 1) rows pd' md' ecb' entry row'
+  gathered-next r trace start pd md pd' md' ecb ecb' row row' at before x y e q p m = record {
     largest-pd = p ∙ largest-turn tracePD b i r trace start at (before .largest-pd) x;
     largest-md = m ∙ largest-turn traceMD b i r trace start at (before .largest-md) y;
     joined =
@@ -58,9 +58,9 @@ module _ (b : List ℕ) (i : ℕ) (rows : Bool) (entry : List ℕ) where
   }
 
   -- all of them
-  pub passed-all : (r pd md : ℕ) (ecb row : List ℕ) → r ≡ traceCount b i → Passed b i r rows pd md ecb entry row
+  pub gathered-all : (r pd md : ℕ) (ecb row : List ℕ) → r ≡ traceCount b i → Gathered b i r rows pd md ecb entry row
       → (pd ≡ taskPD b i) × (md ≡ taskMD b i) × (ecb ≡ wordsOf (evicting b i)) × (rows ≡ true → row ≡ raised (onCoreOf b i (λ j. reloads b j i)) i entry)
   unfolding taskPD taskMD evicting
-  passed-all r pd md ecb row end all =
-      let done : Passed b i (traceCount b i) rows pd md ecb entry row = subst (λ (k : ℕ). Passed b i k rows pd md ecb entry row) end all in
+  gathered-all r pd md ecb row end all =
+      let done : Gathered b i (traceCount b i) rows pd md ecb entry row = subst (λ (k : ℕ). Gathered b i k rows pd md ecb entry row) end all in
       (done .largest-pd, done .largest-md, done .joined, λ wanted. done .higher wanted ∙ added-all b i entry)
