@@ -5,7 +5,6 @@ use replies::reply::of_outcome;
 use replies::table::RECORD_WORDS;
 use replies::table::fill_words;
 ghost use mathlib.Core.Path.{_≡_};
-ghost use Prim.Native.Nat.{_/_};
 ghost use lib.ListN.{length};
 ghost use Rattle.board.specs.Layout.{passLimit};
 ghost use Rattle.refusals.specs.declared.Verdict.the-variants.{Passed};
@@ -13,7 +12,7 @@ ghost use Rattle.answers.specs.Refusals.{figuresRefusal, analyseRefusal};
 ghost use Rattle.answers.specs.Answers.{system, figuresAnswer, overheadAnswer, weighAnswer, analyseAnswer, timesAfter, ScratchAfter};
 ghost use Rattle.calls.specs.Demand.{Demand3};
 ghost use Rattle.replies.specs.Replies.{outcomeCode, outcomeWords, answerCode, answerWords};
-ghost use Rattle.replies.specs.Records.{recordsAfter};
+ghost use Rattle.replies.specs.Records.{recordRoom, recordsAfter};
 
 // Figures: the records of the tasks as words, 13 a record; the value is their number.
 #[no_mangle]
@@ -22,10 +21,10 @@ pub extern "C" fn zuzgravel_figures(
     records: &mut [u32],
     answer: &mut [u64; 2],
 ) -> u32
-    ensures code { λ r. ⌜ r ≡ outcomeCode (figuresAnswer (now (board .entry)) (length (now (records .entry)) / 13)) ⌝ }
-    ensures answer { λ _. ⌜ now (answer .exit) ≡ outcomeWords (figuresAnswer (now (board .entry)) (length (now (records .entry)) / 13)) ⌝ }
+    ensures code { λ r. ⌜ r ≡ outcomeCode (figuresAnswer (now (board .entry)) (recordRoom (now (records .entry)))) ⌝ }
+    ensures answer { λ _. ⌜ now (answer .exit) ≡ outcomeWords (figuresAnswer (now (board .entry)) (recordRoom (now (records .entry)))) ⌝ }
     ensures records { λ _. ⌜ now (records .exit) ≡ recordsAfter (now (board .entry))
-        (figuresRefusal (now (board .entry)) (length (now (records .entry)) / 13)) (now (records .entry)) ⌝ }
+        (figuresRefusal (now (board .entry)) (recordRoom (now (records .entry)))) (now (records .entry)) ⌝ }
 {
     let mut n: usize = 0;
     let mut words = [0u32; 256];
@@ -79,22 +78,22 @@ pub extern "C" fn zuzgravel_analyse(
     answer: &mut [u64; 2],
 ) -> u32
     ensures code { λ r. ⌜ r ≡ answerCode
-        (analyseAnswer (now (board .entry)) (length (now (times .entry))) (length (now (scratch .entry))) (length (now (records .entry)) / 13)) ⌝ }
+        (analyseAnswer (now (board .entry)) (length (now (times .entry))) (length (now (scratch .entry))) (recordRoom (now (records .entry)))) ⌝ }
     ensures answer { λ _. ⌜ now (answer .exit) ≡ answerWords
-        (analyseAnswer (now (board .entry)) (length (now (times .entry))) (length (now (scratch .entry))) (length (now (records .entry)) / 13)) ⌝ }
+        (analyseAnswer (now (board .entry)) (length (now (times .entry))) (length (now (scratch .entry))) (recordRoom (now (records .entry)))) ⌝ }
     ensures times { λ _. ⌜ now (times .exit) ≡ timesAfter (now (board .entry))
-        (analyseAnswer (now (board .entry)) (length (now (times .entry))) (length (now (scratch .entry))) (length (now (records .entry)) / 13))
+        (analyseAnswer (now (board .entry)) (length (now (times .entry))) (length (now (scratch .entry))) (recordRoom (now (records .entry))))
         (now (times .entry)) ⌝ }
     ensures records { λ _. ⌜ now (records .exit) ≡ recordsAfter (now (board .entry))
-        (analyseRefusal (now (board .entry)) (length (now (times .entry))) (length (now (scratch .entry))) (length (now (records .entry)) / 13))
+        (analyseRefusal (now (board .entry)) (length (now (times .entry))) (length (now (scratch .entry))) (recordRoom (now (records .entry))))
         (now (records .entry)) ⌝ }
     ensures scratch { λ _. ⌜ ScratchAfter
-        (analyseRefusal (now (board .entry)) (length (now (times .entry))) (length (now (scratch .entry))) (length (now (records .entry)) / 13))
+        (analyseRefusal (now (board .entry)) (length (now (times .entry))) (length (now (scratch .entry))) (recordRoom (now (records .entry))))
         (now (scratch .entry)) (now (scratch .exit)) ⌝ }
     ensures demand3 { λ _. ⌜ (analyseRefusal
-        (now (board .entry)) (length (now (times .entry))) (length (now (scratch .entry))) (length (now (records .entry)) / 13) ≡ Passed
+        (now (board .entry)) (length (now (times .entry))) (length (now (scratch .entry))) (recordRoom (now (records .entry))) ≡ Passed
         → Demand3 (system (now (board .entry))) (passLimit (now (board .entry)))
-        (analyseAnswer (now (board .entry)) (length (now (times .entry))) (length (now (scratch .entry))) (length (now (records .entry)) / 13))
+        (analyseAnswer (now (board .entry)) (length (now (times .entry))) (length (now (scratch .entry))) (recordRoom (now (records .entry))))
         (now (times .exit))) ⌝ }
 {
     let mut n: usize = 0;

@@ -2,7 +2,7 @@
 -- Assumes nothing.
 use Prim.Native.Nat.{ℕ, _*_, _/_, _%_, _^_}
 use mathlib.Core.List.{List, [], _∷_}
-use lib.ListN.{getD}
+use lib.ListN.{length, getD}
 use Rattle.folds.specs.Folds.{fillTo}
 use Rattle.board.specs.Layout.{tasks}
 use Rattle.refusals.specs.declared.Verdict.{Verdict}
@@ -13,6 +13,10 @@ use Rattle.figures.specs.Figures.{figureOf}
 -- the words of a record
 abbrev pub recordWords : ℕ
 recordWords = 13
+
+-- the records that a buffer has room for
+abbrev pub recordRoom : List ℕ → ℕ
+recordRoom words = length words / recordWords
 
 -- the low and the high 32 bits of a 64-bit word
 abbrev pub lowHalf : ℕ → ℕ
