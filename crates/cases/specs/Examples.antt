@@ -1,4 +1,4 @@
--- K1 to K11 as one theorem about the definitions that the calls' contracts cite, by computation.
+-- K1 to K11, the worked examples of document 01, as one theorem about the definitions that the calls' contracts cite, by computation.
 -- Assumes nothing.
 use Prim.Native.Nat.{ℕ, _/_, _%_}
 use mathlib.Core.List.{List, [], _∷_}

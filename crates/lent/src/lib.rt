@@ -2,6 +2,10 @@
 pub mod print;
 
 use calls::Figure;
+use folds::wide;
+
+// What every word of a record is before a call: no task is on core 9.
+const MARK: u32 = 9;
 
 pub fn figures_small(board: &[u32], mut table: [Figure; 3]) {
     let outcome = calls::figures(board, &mut table);
@@ -23,14 +27,14 @@ pub fn analyse_small(
     print::answer_small(answer, table);
 }
 
-// What a record is before a call: every word is 9. No task is on core 9.
+// What a record is before a call.
 pub fn marked() -> Figure {
     Figure {
-        core: 9,
-        period: 9,
-        deadline: 9,
-        pd: 9,
-        md: 9,
-        ecb: [9, 9, 9, 9],
+        core: MARK,
+        period: MARK,
+        deadline: MARK,
+        pd: MARK,
+        md: MARK,
+        ecb: [wide(MARK); 4],
     }
 }

@@ -1,4 +1,5 @@
 // An answer and the records of a table on standard output.
+use crate::MARK;
 use calls::Answer;
 use calls::Figure;
 use calls::Outcome;
@@ -93,14 +94,20 @@ fn print_unless_marked(number: u64, f: Figure) -> u64
     }
 }
 
-// Whether every word of a record is 9.
+// Whether a record is as `marked` has it.
 fn is_marked(f: Figure) -> bool {
     let ecb = f.ecb;
-    f.core == 9 && f.period == 9 && f.deadline == 9 && f.pd == 9 && f.md == 9 && are_nine(ecb)
+    f.core == MARK
+        && f.period == MARK
+        && f.deadline == MARK
+        && f.pd == MARK
+        && f.md == MARK
+        && are_marked(ecb)
 }
 
-fn are_nine(words: [u64; 4]) -> bool {
-    words[0] == 9 && words[1] == 9 && words[2] == 9 && words[3] == 9
+fn are_marked(words: [u64; 4]) -> bool {
+    let mark = wide(MARK);
+    words[0] == mark && words[1] == mark && words[2] == mark && words[3] == mark
 }
 
 // Its number from 1, core, T, D, PD, MD and the words of its ECB.
