@@ -9,7 +9,7 @@ use folds::larger;
 use folds::words::copy_at;
 use trace::cursor;
 use trace::cursor::Cursor;
-use trace::demand;
+use trace::demand::Demand;
 ghost use mathlib.Core.Path.{_≡_};
 ghost use mathlib.Core.Bool.{true, _||_};
 ghost use Prim.Native.Nat.{ℕ, _+_, _*_, _<_, _≤_};
@@ -117,12 +117,6 @@ fn survey_task(
     }
 }
 
-// PD and MD of one trace.
-struct Demand {
-    pd: u32,
-    md: u32,
-}
-
 // PD and MD of one trace of task i. Its evicting cache blocks are added to `ecb` and, with `rows`, the row is raised by its useful sets.
 fn survey_trace(
     board: &[u32],
@@ -142,9 +136,11 @@ fn survey_trace(
         (λ (j : ℕ). mostUseful (traceOf (now (board .entry)) (at .trace)) (evictedBy (now (board .entry)) j))) i (now (row .entry))) ⌝ }
 {
     let len = index(fields::trace_length(board, at.trace));
-    let pd = demand::pd(board, at.start, len);
     let found = useful::scan_trace(board, at.start, len, ecb, marks, lives);
-    let demand = Demand { pd, md: found.md };
+    let demand = Demand {
+        pd: found.pd,
+        md: found.md,
+    };
     if rows {
         row::raise(board, i, evicted, lives, found.records, row);
     }

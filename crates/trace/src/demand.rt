@@ -28,15 +28,21 @@ pub fn pd(board: &[u32], start: usize, len: usize) -> u32
     sum
 }
 
-// MD without a cache: with memory 0 nothing is held, and with memory 1 the blocks of the scratchpad.
-pub fn uncached_md(board: &[u32], start: usize, len: usize) -> u32
+// PD and MD.
+pub struct Demand {
+    pub pd: u32,
+    pub md: u32,
+}
+
+// PD and MD without a cache, in one scan: with memory 0 nothing is held, and with memory 1 the blocks of the scratchpad.
+pub fn uncached(board: &[u32], start: usize, len: usize) -> Demand
     requires { ⌜ (Sound (now board)) × (Lies (now board) start len) × (memory (now board) ≤ 1) ⌝ }
-    ensures { λ r. ⌜ r ≡ traceMD (traceAt (now (board .entry)) start len) ⌝ }
+    ensures { λ r. ⌜ (r .md ≡ traceMD (traceAt (now (board .entry)) start len)) × (r .pd ≡ tracePD (traceAt (now (board .entry)) start len)) ⌝ }
 {
     let memory = fields::memory(board);
     match memory {
-        0 => accesses_past(board, start, len, 0, FIRST_DATA_BLOCK),
-        _ => accesses_past(
+        0 => demands_past(board, start, len, 0, FIRST_DATA_BLOCK),
+        _ => demands_past(
             board,
             start,
             len,
@@ -46,21 +52,24 @@ pub fn uncached_md(board: &[u32], start: usize, len: usize) -> u32
     }
 }
 
-// The bus accesses without a cache: fetches of blocks from low on, reads of blocks from high on, and writes.
-fn accesses_past(board: &[u32], start: usize, len: usize, low: u32, high: u32) -> u32
+// PD, and the bus accesses without a cache: fetches of blocks from low on, reads of blocks from high on, and writes.
+fn demands_past(board: &[u32], start: usize, len: usize, low: u32, high: u32) -> Demand
     requires { ⌜ (Sound (now board)) × (Lies (now board) start len) ⌝ }
-    ensures { λ r. ⌜ r ≡ sumTo (accesses (traceAt (now (board .entry)) start len) low high) len ⌝ }
+    ensures { λ r. ⌜ (r .md ≡ sumTo (accesses (traceAt (now (board .entry)) start len) low high) len)
+        × (r .pd ≡ tracePD (traceAt (now (board .entry)) start len)) ⌝ }
 {
-    let mut n: u32 = 0;
+    let mut pd: u32 = 0;
+    let mut md: u32 = 0;
     let mut p: usize = 0;
     while p < len {
-        n += accesses_by(board, start, len, p, low, high);
+        pd += work::cycles(work_word(board, start, len, p));
+        md += accesses_by(board, start, len, p, low, high);
         p += 1;
     }
-    n
+    Demand { pd, md }
 }
 
-// Those of instruction p.
+// The bus accesses of instruction p.
 fn accesses_by(board: &[u32], start: usize, len: usize, p: usize, low: u32, high: u32) -> u32
     requires { ⌜ (Sound (now board)) × (Lies (now board) start len) × (p < len) ⌝ }
     ensures { λ r. ⌜ (r ≡ accesses (traceAt (now (board .entry)) start len) low high p) × (r ≤ 2) ⌝ }

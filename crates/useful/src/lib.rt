@@ -8,7 +8,7 @@ use marks::mark_trace;
 use slots::ends;
 use slots::pass_slot;
 use trace::cache::cache_of;
-use trace::demand::uncached_md;
+use trace::demand;
 ghost use mathlib.Core.Path.{_≡_};
 ghost use mathlib.Core.Bool.{_||_};
 ghost use Prim.Native.Nat.{ℕ, _*_, _≤_};
@@ -16,17 +16,18 @@ ghost use lib.ListN.{length};
 ghost use Rattle.board.specs.Layout as at;
 ghost use Rattle.board.specs.Sound.{Sound};
 ghost use Rattle.bitset.specs.Bits.{member, wordsOf};
-ghost use Rattle.trace.specs.Traces.{traceMD, evicts};
+ghost use Rattle.trace.specs.Traces.{tracePD, traceMD, evicts};
 ghost use Rattle.trace.specs.Places.{traceAt, Lies};
 ghost use Rattle.useful.specs.Recorded.{Recorded};
 
-// What a survey of a trace found: its bus accesses, and the number of points recorded.
+// What a scan of a trace found: PD, MD, and the number of points recorded.
 pub struct Scanned {
+    pub pd: u32,
     pub md: u32,
     pub records: usize,
 }
 
-// MD of a trace; its evicting cache blocks are added to `ecb`, and the useful sets of some of its points recorded in `lives`, four words a
+// PD and MD of a trace; its evicting cache blocks are added to `ecb`, and the useful sets of some of its points recorded in `lives`, four words a
 // record, so that every point's useful sets are among those of a recorded point. Without a cache nothing is evicted or useful.
 pub fn scan_trace(
     board: &[u32],
@@ -41,19 +42,37 @@ pub fn scan_trace(
     ensures { λ r. ⌜ (r .md ≡ traceMD (traceAt (now (board .entry)) start len))
         × (Recorded (traceAt (now (board .entry)) start len) (now (lives .exit)) (r .records))
         × (now (ecb .exit) ≡ wordsOf (λ (s : ℕ). member (now (ecb .entry)) s || evicts (traceAt (now (board .entry)) start len) s))
-        × (length (now (marks .exit)) ≡ length (now (marks .entry))) × (length (now (lives .exit)) ≡ length (now (lives .entry))) ⌝ }
+        × (length (now (marks .exit)) ≡ length (now (marks .entry))) × (length (now (lives .exit)) ≡ length (now (lives .entry)))
+        × (r .pd ≡ tracePD (traceAt (now (board .entry)) start len)) ⌝ }
 {
     let kind = memory(board);
     match kind {
-        2 => under_cache(board, start, len, ecb, marks, lives),
-        _ => Scanned {
-            md: uncached_md(board, start, len),
-            records: 0,
-        },
+        2 => {
+            let loads = under_cache(board, start, len, ecb, marks, lives);
+            Scanned {
+                pd: demand::pd(board, start, len),
+                md: loads.md,
+                records: loads.records,
+            }
+        }
+        _ => {
+            let demand = demand::uncached(board, start, len);
+            Scanned {
+                pd: demand.pd,
+                md: demand.md,
+                records: 0,
+            }
+        }
     }
 }
 
-// The same with a cache. A point is recorded where a set came up since the last record and the next point loses one.
+// What the scans under a cache found: MD, and the number of points recorded.
+struct CacheScan {
+    md: u32,
+    records: usize,
+}
+
+// The same with a cache, but for PD. A point is recorded where a set came up since the last record and the next point loses one.
 fn under_cache(
     board: &[u32],
     start: usize,
@@ -61,7 +80,7 @@ fn under_cache(
     ecb: &mut [u64],
     marks: &mut [u32],
     lives: &mut [u64],
-) -> Scanned
+) -> CacheScan
     requires { ⌜ (Sound (now board)) × (Lies (now board) start len) × (length (now ecb) ≡ 4)
         × (2 * len ≤ length (now marks)) × (4 * len ≤ length (now lives)) ⌝ }
     requires { ⌜ at.memory (now board) ≡ 2 ⌝ }
@@ -88,7 +107,7 @@ fn under_cache(
         fresh = fresh & !lost | came;
         p += 1;
     }
-    Scanned {
+    CacheScan {
         md: writes + missed,
         records: m,
     }

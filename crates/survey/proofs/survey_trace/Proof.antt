@@ -30,21 +30,18 @@ the-trace : (c : tie.After-index)
     ≡ traceOf (now (c .before .before .before .args .board)) (c .before .before .before .args .at .trace)
 the-trace c = starts-trace _ _ _ (c .before .before .before .pre .1) _ (len-known c)
 
-lies : tie.Need-pd-requires
-lies c κs = starts-lies _ _ _ (c .before .before .before .pre .1) _ (len-known c)
-
-ecb-length : (c : tie.After-scan-trace-arg3) → length (now (c .before .before .before .before .before .before .before .args .ecb)) ≡ 4
+ecb-length : (c : tie.After-scan-trace-arg3) → length (now (c .before .before .before .before .before .before .args .ecb)) ≡ 4
 ecb-length c = search needs
 
-marks-length : (c : tie.After-scan-trace-arg3) → length (now (c .before .before .before .before .before .before .before .args .marks)) ≡ 2048
+marks-length : (c : tie.After-scan-trace-arg3) → length (now (c .before .before .before .before .before .before .args .marks)) ≡ 2048
 marks-length c = search needs
 
-lives-length : (c : tie.After-scan-trace-arg3) → length (now (c .before .before .before .before .before .before .before .args .lives)) ≡ 4096
+lives-length : (c : tie.After-scan-trace-arg3) → length (now (c .before .before .before .before .before .before .args .lives)) ≡ 4096
 lives-length c = search needs
 
 asks : tie.Need-scan-trace-requires
 asks c κs =
-    let read = c .before .before .before .before in
+    let read = c .before .before .before in
     let start = read .before .before .before in
     let lie = starts-lies _ _ _ (start .pre .1) _ (len-known read) in
     (start .pre .0 .sound, lie, ecb-length c, omega (arith, marks-length c, lie .short), omega (arith, lives-length c, lie .short))
@@ -53,22 +50,22 @@ raises : tie.Need-raise-requires
 raises c κs =
     let found = c .before .before .before .before in
     let lent = found .before in
-    let read = lent .before .before .before .before in
+    let read = lent .before .before .before in
     let start = read .before .before .before in
     let lie = starts-lies _ _ _ (start .pre .1) _ (len-known read) in
     (start .pre .0, start .pre .2, omega (arith, found .scan-trace .ensures .1 .few, found .scan-trace .ensures .4, lives-length lent, lie .short))
 
 -- PD, MD and the evicting cache blocks
 three : (c : tie.After-scan-trace)
-    → let read = c .before .before .before .before .before in
+    → let read = c .before .before .before .before in
     let a = read .before .before .before .args in
     let t = traceOf (now (a .board)) (a .at .trace) in
-    (c .before .before .before .before .pd .result ≡ tracePD t) × (c .scan-trace .result .md ≡ traceMD t)
+    (c .scan-trace .result .pd ≡ tracePD t) × (c .scan-trace .result .md ≡ traceMD t)
     × (c .scan-trace .last .1 .1 .1 .0 ≡ wordsOf (λ s. member (now (a .ecb)) s || evicts t s))
 three c =
-    let read = c .before .before .before .before .before in
+    let read = c .before .before .before .before in
     let t = the-trace read in (
-      c .before .before .before .before .pd .ensures ∙ ap tracePD t,
+      c .scan-trace .ensures .5 ∙ ap tracePD t,
       c .scan-trace .ensures .0 ∙ ap traceMD t,
       c .scan-trace .ensures .2 ∙ ap (λ (u : Trace). wordsOf (λ s. member (now (read .before .before .before .args .ecb)) s || evicts u s)) t,
     )
@@ -76,7 +73,7 @@ three c =
 returns : tie.Need-returns
 returns c =
     let found = c .before .before .before .before .before in
-    let read = found .before .before .before .before .before in
+    let read = found .before .before .before .before in
     let a = read .before .before .before .args in
     let b = now (a .board) in
     let all = three found in (
@@ -95,4 +92,4 @@ plain c =
     (all .0, all .1, all .2, λ e. absurd (false≢true (sym (c .if1 .left) ∙ e)))
 
 pub survey-trace-spec : {M : Type 1} → statement M
-survey-trace-spec = tie.close (tie.spec (λ c κs. search needs) (λ c κs. search needs) lies asks raises returns plain)
+survey-trace-spec = tie.close (tie.spec (λ c κs. search needs) (λ c κs. search needs) asks raises returns plain)

@@ -20,15 +20,21 @@ plain c =
     let a = top .args in
     let t = traceAt (now (a .board)) (a .start) (a .len) in
     let uncached : memory (now (a .board)) ≡ 2 → ⊥ = λ e. omega arith in (
-      c .uncached-md .ensures,
+      c .uncached .ensures .0,
       recorded-none t (now (a .lives)) (useful-plain t uncached),
       join-none (now (a .ecb)) (evicts t) (top .pre .2) (known .before .before .slice-known .given) (evicts-plain t uncached),
       refl,
       refl,
+      c .uncached .ensures .1,
     )
+
+cached : tie.Need-returns
+cached c =
+    let found = c .before .before .before .before .before .before .before .under-cache .ensures in
+    (found .0, found .1, found .2, found .3, found .4, c .pd .ensures)
 
 pub scan-trace-spec : {M : Type 1} → statement M
 scan-trace-spec =
     tie.close
-    (tie.spec (λ c κs. search needs) (λ c κs. search needs) (λ c κs. search needs) (λ c. search needs) (λ c. search needs) (λ c. search needs)
-    (λ c. search needs) plain)
+    (tie.spec (λ c κs. search needs) (λ c κs. search needs) (λ c κs. search needs) (λ c κs. search needs) (λ c. search needs) (λ c. search needs) (λ c. search needs)
+    cached plain)
