@@ -5,6 +5,8 @@ pub mod Searches
 pub mod Lists
 pub mod Joined
 pub mod Loops
+pub mod Last
+pub mod Reaches
 pub mod Named
 pub mod Filled
 pub mod Stored
