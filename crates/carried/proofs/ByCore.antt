@@ -1,63 +1,62 @@
--- The accesses of the tasks off a core, core by core: tables of sums, and the sum of one core joined to the definitions.
+-- The accesses of the cores from one core up to another, joined to the definitions.
 -- Assumes nothing.
-use Prim.Native.Nat.{ℕ, _+_, _≤_, _<_}
-use mathlib.Core.Bool.{Bool, true, false, not}
+use Prim.Native.Nat.{ℕ, _+_, _-_, _≤_}
+use mathlib.Core.Bool.{Bool}
 use mathlib.Core.List.{List}
-use mathlib.Core.Path.{_≡_, refl, sym, ap, ap₂, subst, _∙_}
-use native.Mathlib.Decide.{ℕ-discrete}
-use native.Mathlib.Nat.{le-antisymm}
+use mathlib.Core.Path.{_≡_, sym, ap, ap₂, _∙_}
+use native.Mathlib.Numerals.{add-one}
 use native.Mathlib.Omega.{arith}
-use lib.Dec.{eqb}
-use lib.ListN.{getD, set, replicate, length-set, length-replicate, getD-replicate}
-use lib.Seq.{getD-set-same, getD-set-other}
-use borrow.Author.Tests.{eq-eqb, ne-eqb}
+use lib.Dec.{ltb, leb}
+use borrow.Author.Tests.{lt-ltb, le-ltb, le-leb, lt-leb}
 use Rattle.folds.specs.Folds.{onlyIf, sumTo}
-use Rattle.folds.proofs.Folds.{sumTo-none, sumTo-next, sumTo-cong, onlyIf-sum}
-use Rattle.board.specs.Layout.{core}
-use Rattle.sums.specs.Sums.{carryIn, coreAccesses}
-use Rattle.sums.specs.Inputs.{Holds}
-use Rattle.carried.specs.Terms.{carriedFrom}
+use Rattle.folds.proofs.Folds.{sumTo-next, sumTo-cong, sumTo-prefix, sumTo-zero, sumTo-split}
+use Rattle.board.specs.Layout.{cores}
+use Rattle.sums.specs.Sums.{isBefore, isAfter, overCores, coreAccesses}
+use Rattle.carried.specs.Terms.{coresFrom}
 
--- ---- a table of n sums, place z having those k that stand at z + 1: no k yet, one more k, and all k below m
+module _ (b R : List ℕ) (t j : ℕ) where
+  abbrev A : ℕ → ℕ
+  A y = coreAccesses b R t j y
 
-pub table-none : (f : ℕ → ℕ → ℕ) (n : ℕ) → Holds n (λ z. sumTo (f z) 0) (replicate n 0)
-table-none f n = record { long = omega (arith, length-replicate {A = ℕ} n 0); at = λ z h. getD-replicate n z 0 0 h ∙ sym (sumTo-none (f z)) }
+  -- ---- a run of cores from `first` on: none yet, and one more, which is core y
 
-pub table-turn : (at w : ℕ → ℕ) (n k : ℕ) {t : List ℕ} {y v : ℕ} → Holds n (λ z. sumTo (λ m. onlyIf (eqb (at m) (z + 1)) (w m)) k) t
-    → y < n → y + 1 ≡ at k → v ≡ getD t y 0 + w k → Holds n (λ z. sumTo (λ m. onlyIf (eqb (at m) (z + 1)) (w m)) (k + 1)) (set t y v)
-table-turn at w n k {t} {y} {v} h l e add =
-    record { long = omega (arith, h .long, length-set t y v); at = λ z less. sum z less (ℕ-discrete z y) ∙ sym (sumTo-next (λ m. onlyIf (eqb (at m) (z + 1)) (w m)) k) }
-  where
-    sum : (z : ℕ) → z < n → Dec (z ≡ y) → getD (set t y v) z 0 ≡ sumTo (λ m. onlyIf (eqb (at m) (z + 1)) (w m)) k + onlyIf (eqb (at k) (z + 1)) (w k)
-    sum z less (yes same) =
-        ap (λ (q : ℕ). getD (set t y v) q 0) same
-        ∙ getD-set-same t y v 0 (omega (arith, h .long))
-        ∙ add
-        ∙ ap₂ _+_ (ap (λ (q : ℕ). getD t q 0) (sym same) ∙ h .at z less) (ap (λ (s : Bool). onlyIf s (w k)) (sym (eq-eqb (at k) (z + 1) (omega arith))))
-    sum z less (no other) =
-        getD-set-other t y z v 0 other
-        ∙ h .at z less
-        ∙ omega (arith, ap (λ (s : Bool). onlyIf s (w k)) (ne-eqb (at k) (z + 1) (λ q. other (omega arith))))
+  module _ (first : ℕ) where
+    pub coresFrom-none : coresFrom b R t j first (first - 1) ≡ 0
+    unfolding coresFrom
+    coresFrom-none =
+        sumTo-zero (λ y. onlyIf (leb first (y + 1)) (A (y + 1))) (first - 1)
+        (λ y h. ap (λ (here : Bool). onlyIf here (A (y + 1))) (lt-leb first (y + 1) (omega arith)))
 
-pub table-end : (f : ℕ → ℕ → ℕ) (n : ℕ) {t : List ℕ} {k m : ℕ} → Holds n (λ z. sumTo (f z) k) t → k ≤ m → m ≤ k → Holds n (λ z. sumTo (f z) m) t
-table-end f n {t} h p q = subst (λ (m : ℕ). Holds n (λ z. sumTo (f z) m) t) (le-antisymm p q) h
+    pub coresFrom-next : (y : ℕ) → 1 ≤ y → first ≤ y → coresFrom b R t j first (y - 1) + A y ≡ coresFrom b R t j first y
+    unfolding coresFrom
+    coresFrom-next y some h =
+        let whole : y - 1 + 1 ≡ y = omega arith in
+        let term : ℕ → ℕ = λ y. onlyIf (leb first (y + 1)) (A (y + 1)) in
+        ap₂ (λ (z : ℕ) (here : Bool). sumTo term (y - 1) + onlyIf here (A z)) (sym whole) (sym (le-leb first (y - 1 + 1) (omega arith)))
+        ∙ sym (sumTo-next term (y - 1))
+        ∙ ap (sumTo term) whole
 
--- ---- the sum of one core
+    pub coresFrom-prefix : (m n : ℕ) → m ≤ n → coresFrom b R t j first m ≤ coresFrom b R t j first n
+    unfolding coresFrom
+    coresFrom-prefix m n h = sumTo-prefix (λ y. onlyIf (leb first (y + 1)) (A (y + 1))) m n h
 
-onlyIf-zero : (t : Bool) → onlyIf t 0 ≡ 0
-onlyIf-zero true = refl
-onlyIf-zero false = refl
+  -- ---- the cores before core x, and those after it
 
--- on core y, and off core x: on core y, unless that is x
-off-core : (c x y v : ℕ) → onlyIf (eqb c y) (onlyIf (not (eqb c x)) v) ≡ onlyIf (not (eqb y x)) (onlyIf (eqb c y) v)
-off-core c x y v = go (ℕ-discrete c y)
-  where
-    go : Dec (c ≡ y) → onlyIf (eqb c y) (onlyIf (not (eqb c x)) v) ≡ onlyIf (not (eqb y x)) (onlyIf (eqb c y) v)
-    go (yes e) = rw (eq-eqb c y e) (ap (λ (z : ℕ). onlyIf (not (eqb z x)) v) e)
-    go (no n) = rw (ne-eqb c y n) (sym (onlyIf-zero (not (eqb y x))))
+  pub coresBefore-from : (x : ℕ) → 1 ≤ x → x ≤ cores b → overCores b (isBefore x) A ≡ coresFrom b R t j 1 (x - 1)
+  unfolding coresFrom
+  coresBefore-from x some low =
+      let whole : cores b ≡ x - 1 + (cores b - (x - 1)) = omega arith in
+      let before : ℕ → ℕ = λ y. onlyIf (ltb (y + 1) x) (A (y + 1)) in
+      omega (
+        arith,
+        ap (sumTo before) whole,
+        sumTo-split before (x - 1) (cores b - (x - 1)),
+        sumTo-cong before (λ y. onlyIf (leb 1 (y + 1)) (A (y + 1))) (x - 1)
+            (λ y h. ap (λ (here : Bool). onlyIf here (A (y + 1))) (lt-ltb (y + 1) x (omega arith) ∙ sym (le-leb 1 (y + 1) (omega arith)))),
+        sumTo-zero (λ y. before (x - 1 + y)) (cores b - (x - 1))
+            (λ y h. ap (λ (here : Bool). onlyIf here (A (x - 1 + y + 1))) (le-ltb (x - 1 + y + 1) x (omega arith))),
+      )
 
-pub carriedFrom-is : (b R : List ℕ) (t x j y : ℕ) → carriedFrom b R t x j y ≡ onlyIf (not (eqb y x)) (coreAccesses b R t j y)
-unfolding carriedFrom coreAccesses
-carriedFrom-is b R t x j y =
-    sumTo-cong _ _ (j + 1) (λ k h. off-core (core b k) x y (carryIn b R t j k))
-    ∙ sym (onlyIf-sum (not (eqb y x)) (λ k. onlyIf (eqb (core b k) y) (carryIn b R t j k)) (j + 1))
+  pub coresAfter-from : (x : ℕ) → overCores b (isAfter x) A ≡ coresFrom b R t j (x + 1) (cores b)
+  unfolding coresFrom
+  coresAfter-from x = ap (λ (first : ℕ). sumTo (λ y. onlyIf (leb first (y + 1)) (A (y + 1))) (cores b)) (sym (add-one x))

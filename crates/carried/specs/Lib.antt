@@ -1,2 +1,2 @@
--- What the sums over the tasks off a core add up.
+-- What the sums over the tasks and the cores off a core add up.
 pub mod Terms

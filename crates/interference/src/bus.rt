@@ -4,9 +4,11 @@ use board::fields::core;
 use board::fields::cores;
 use board::fields::slots_each;
 use board::fields::tasks;
-use carried::sides::sides;
+use carried::NO_CAP;
+use carried::cores::sides;
+use carried::others::others;
+use carried::others::others_from;
 use carried::slots::sum_capped;
-use carried::tables::by_core;
 use folds::index;
 use folds::smaller;
 use folds::wide;
@@ -17,6 +19,7 @@ ghost use Rattle.board.specs.Layout as at;
 ghost use Rattle.board.specs.Sound.{Sound};
 ghost use Rattle.sums.specs.Sums as spec;
 ghost use Rattle.sums.specs.Limits.{mostOwnAccesses};
+ghost use Rattle.sums.specs.Chains.{Linked};
 ghost use Rattle.sums.specs.Inputs.{RowInput};
 
 // Task n.
@@ -27,7 +30,7 @@ fn lowest(board: &[u32]) -> usize
     index(tasks(board)) - 1
 }
 
-// Bus 0, with s the accesses of the task's own core.
+// Bus 0, with s the accesses of the task's own core: those of lower tasks count up to s alone.
 fn fixed_priority(board: &[u32], own: &[u32], all: &[u32], times: &[u32], i: usize, s: u64) -> u64
     requires { ⌜ RowInput (now board) (now own) (now times) i × RowInput (now board) (now all) (now times) (spec.lowest (now board)) ⌝ }
     requires { ⌜ s ≡ spec.ownAccesses (now board) (now times) i ⌝ }
@@ -35,41 +38,75 @@ fn fixed_priority(board: &[u32], own: &[u32], all: &[u32], times: &[u32], i: usi
 {
     let t = time(board, times, i);
     let x = core(board, i);
-    let above = sides(board, own, times, t, x, i, 0);
-    let below = sides(board, all, times, t, x, lowest(board), i + 1);
-    above.before + above.after + smaller(s, below.before + below.after)
+    let above = others(board, own, times, t, x, i);
+    let below = others_from(board, all, times, t, x, lowest(board), i + 1, s);
+    above + smaller(s, below)
 }
 
-// Bus 1.
-fn processor_priority(board: &[u32], all: &[u32], times: &[u32], i: usize, s: u64) -> u64
-    requires { ⌜ RowInput (now board) (now all) (now times) (spec.lowest (now board)) × (i < at.tasks (now board)) ⌝ }
+// Bus 1: the accesses of the cores after that of the task count up to s alone.
+fn processor_priority(
+    board: &[u32],
+    links: &[u32],
+    all: &[u32],
+    times: &[u32],
+    i: usize,
+    s: u64,
+) -> u64
+    requires { ⌜ RowInput (now board) (now all) (now times) (spec.lowest (now board)) × (i < at.tasks (now board)) × Linked (now board) (now links) ⌝ }
     requires { ⌜ s ≡ spec.ownAccesses (now board) (now times) i ⌝ }
     ensures { λ r. ⌜ r ≡ spec.interference (now (board .entry)) (now (times .entry)) i 1 ⌝ }
 {
     let t = time(board, times, i);
-    let others = sides(board, all, times, t, core(board, i), lowest(board), 0);
+    let others = sides(
+        board,
+        links,
+        all,
+        times,
+        t,
+        lowest(board),
+        core(board, i),
+        s,
+    );
     others.before + smaller(s, others.after)
 }
 
 // Bus 2.
-fn fifo(board: &[u32], all: &[u32], times: &[u32], i: usize) -> u64
-    requires { ⌜ RowInput (now board) (now all) (now times) (spec.lowest (now board)) × (i < at.tasks (now board)) ⌝ }
+fn fifo(board: &[u32], links: &[u32], all: &[u32], times: &[u32], i: usize) -> u64
+    requires { ⌜ RowInput (now board) (now all) (now times) (spec.lowest (now board)) × (i < at.tasks (now board)) × Linked (now board) (now links) ⌝ }
     ensures { λ r. ⌜ r ≡ spec.interference (now (board .entry)) (now (times .entry)) i 2 ⌝ }
 {
     let t = time(board, times, i);
-    let others = sides(board, all, times, t, core(board, i), lowest(board), 0);
+    let others = sides(
+        board,
+        links,
+        all,
+        times,
+        t,
+        lowest(board),
+        core(board, i),
+        NO_CAP,
+    );
     others.before + others.after
 }
 
 // Bus 3.
-fn round_robin(board: &[u32], all: &[u32], times: &[u32], i: usize, s: u64) -> u64
-    requires { ⌜ RowInput (now board) (now all) (now times) (spec.lowest (now board)) × (i < at.tasks (now board)) × (3 ≤ at.bus (now board)) ⌝ }
+fn round_robin(board: &[u32], links: &[u32], all: &[u32], times: &[u32], i: usize, s: u64) -> u64
+    requires { ⌜ RowInput (now board) (now all) (now times) (spec.lowest (now board)) × (i < at.tasks (now board)) × Linked (now board) (now links)
+        × (3 ≤ at.bus (now board)) ⌝ }
     requires { ⌜ s ≡ spec.ownAccesses (now board) (now times) i ⌝ }
     ensures { λ r. ⌜ r ≡ spec.interference (now (board .entry)) (now (times .entry)) i 3 ⌝ }
 {
     let t = time(board, times, i);
-    let others = by_core(board, all, times, t, core(board, i), lowest(board));
-    sum_capped(board, others, s)
+    sum_capped(
+        board,
+        links,
+        all,
+        times,
+        t,
+        lowest(board),
+        core(board, i),
+        s,
+    )
 }
 
 // Bus 4.
@@ -83,17 +120,26 @@ fn tdma(board: &[u32], times: &[u32], i: usize, s: u64) -> u64
 }
 
 // The interference of task i, with s the accesses of its own core.
-pub fn interference(board: &[u32], own: &[u32], all: &[u32], times: &[u32], i: usize, s: u64) -> u64
-    requires { ⌜ RowInput (now board) (now own) (now times) i × RowInput (now board) (now all) (now times) (spec.lowest (now board)) ⌝ }
+pub fn interference(
+    board: &[u32],
+    links: &[u32],
+    own: &[u32],
+    all: &[u32],
+    times: &[u32],
+    i: usize,
+    s: u64,
+) -> u64
+    requires { ⌜ RowInput (now board) (now own) (now times) i × RowInput (now board) (now all) (now times) (spec.lowest (now board))
+        × Linked (now board) (now links) ⌝ }
     requires { ⌜ s ≡ spec.ownAccesses (now board) (now times) i ⌝ }
     ensures { λ r. ⌜ r ≡ spec.interference (now (board .entry)) (now (times .entry)) i (at.bus (now (board .entry))) ⌝ }
 {
     let rule = bus(board);
     match rule {
         0 => fixed_priority(board, own, all, times, i, s),
-        1 => processor_priority(board, all, times, i, s),
-        2 => fifo(board, all, times, i),
-        3 => round_robin(board, all, times, i, s),
+        1 => processor_priority(board, links, all, times, i, s),
+        2 => fifo(board, links, all, times, i),
+        3 => round_robin(board, links, all, times, i, s),
         _ => tdma(board, times, i, s),
     }
 }

@@ -24,21 +24,22 @@ pub struct SumParts {
     pub refresh: u64,
 }
 
-// The parts of Sum_i at these times, from the tasks' PD and the rows D'(i, _) and D'(n, _).
+// The parts of Sum_i at these times, from the chains of the cores, the tasks' PD and the rows D'(i, _) and D'(n, _).
 pub fn task_parts(
     board: &[u32],
+    links: &[u32],
     pd: &[u32],
     own: &[u32],
     all: &[u32],
     times: &[u32],
     i: usize,
 ) -> SumParts
-    requires { ⌜ SumInput (now board) (now pd) (now own) (now all) (now times) i ⌝ }
+    requires { ⌜ SumInput (now board) (now links) (now pd) (now own) (now all) (now times) i ⌝ }
     ensures { λ r. ⌜ r ≡ sumParts (now (board .entry)) (now (times .entry)) i ⌝ }
 {
-    let core = released(board, pd, own, times, i);
+    let core = released(board, links, pd, own, times, i);
     let s = core.accesses;
-    let others = interference(board, own, all, times, i, s);
+    let others = interference(board, links, own, all, times, i, s);
     let count = s + others + 1;
     let d = wide(access_cycles(board));
     let dr = wide(refresh_cycles(board));
@@ -53,10 +54,18 @@ pub fn task_parts(
 }
 
 // Sum_i: its parts added up.
-pub fn task_sum(board: &[u32], pd: &[u32], own: &[u32], all: &[u32], times: &[u32], i: usize) -> u64
-    requires { ⌜ SumInput (now board) (now pd) (now own) (now all) (now times) i ⌝ }
+pub fn task_sum(
+    board: &[u32],
+    links: &[u32],
+    pd: &[u32],
+    own: &[u32],
+    all: &[u32],
+    times: &[u32],
+    i: usize,
+) -> u64
+    requires { ⌜ SumInput (now board) (now links) (now pd) (now own) (now all) (now times) i ⌝ }
     ensures { λ r. ⌜ r ≡ taskSum (now (board .entry)) (now (times .entry)) i ⌝ }
 {
-    let parts = task_parts(board, pd, own, all, times, i);
+    let parts = task_parts(board, links, pd, own, all, times, i);
     parts.work + parts.higher + parts.own + parts.others + parts.blocking + parts.refresh
 }

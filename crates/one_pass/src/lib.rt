@@ -3,23 +3,25 @@ mod due;
 
 use due::is_due;
 use due::joined;
+use sums::links::CHAIN_WORDS;
 ghost use mathlib.Core.Path.{_≡_};
 ghost use Prim.Native.Nat.{_+_, _<_, _≤_};
 ghost use lib.ListN.{length, getD, take};
 ghost use Rattle.folds.specs.Folds.{fillTo};
 ghost use Rattle.passes.specs.Passes.{capped};
 ghost use Rattle.folds.specs.Stored.{Stored};
+ghost use Rattle.sums.specs.Chains.{Linked};
 ghost use Rattle.scratch.specs.Scratch.{Passable, Prepared};
 ghost use Rattle.one_pass.specs.System.{system};
 ghost use Rattle.one_pass.specs.Kept.{Told, Kept};
 ghost use Rattle.one_pass.specs.Startable.{Startable};
 
 // The next time of task i: its sum, or its bound + 1 where the sum is larger.
-fn next_time(board: &[u32], n: usize, scratch: &[u32], i: usize) -> u32
-    requires { ⌜ (Startable (now board) n (now scratch)) × (Prepared (now board) n (now scratch)) × (i < n) ⌝ }
+fn next_time(board: &[u32], n: usize, links: &[u32], scratch: &[u32], i: usize) -> u32
+    requires { ⌜ (Startable (now board) n (now scratch)) × (Prepared (now board) n (now scratch)) × (i < n) × Linked (now board) (now links) ⌝ }
     ensures { λ r. ⌜ r ≡ capped (system (now (board .entry))) (take n (now (scratch .entry))) i ⌝ }
 {
-    let sum = scratch::sum_of(board, n, scratch, &scratch[..n], i);
+    let sum = scratch::sum_along(board, n, links, scratch, &scratch[..n], i);
     let cap = sums::rows::bound(board, i) + 1;
     let time = folds::smaller(sum, folds::wide(cap));
     time as u32
@@ -32,10 +34,12 @@ pub fn make_pass(board: &[u32], n: usize, moved: &[bool], all: u32, scratch: &mu
         × Kept (now board) n (now scratch) (now moved) all ⌝ }
     ensures { λ _. ⌜ Stored (capped (system (now (board .entry))) (take n (now (scratch .entry)))) n n (now (scratch .entry)) (now (scratch .exit)) ⌝ }
 {
+    let mut links = [0u32; CHAIN_WORDS];
+    sums::links::make(board, n, &mut links);
     let mut i = 0;
     while i < n {
         if is_due(moved[i], all, board::fields::core(board, i)) {
-            scratch[n + i] = next_time(board, n, scratch, i);
+            scratch[n + i] = next_time(board, n, &links, scratch, i);
         }
         i += 1;
     }

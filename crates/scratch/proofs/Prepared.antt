@@ -16,6 +16,7 @@ use Rattle.figures.specs.Survey.{Held, Overheads}
 use Rattle.figures.proofs.Fillable.{held-tasks}
 use Rattle.figures.proofs.Bounds.{taskMD-bound, γ-bound}
 use Rattle.sums.specs.Sums.{memoryDemand}
+use Rattle.sums.specs.Chains.{Linked}
 use Rattle.sums.specs.Inputs.{Holds, CappedTimes, SumInput}
 use Rattle.folds.specs.Stored.{Stored}
 use Rattle.scratch.specs.Scratch.{Passable, Room, withMD, Addable, Added, Prepared}
@@ -114,15 +115,16 @@ module _ {b : List ℕ} {n : ℕ} {w : List ℕ} (ready : Prepared b n w) where
       let place : a + k ≡ 4 * n + (i * n + k) = omega arith in
       ap (λ (p : ℕ). getD w p 0) place ∙ ready .rows i k task (tasks-in k h))
 
-  -- what a sum takes: the PD, row i and the last row
-  pub sum-input : {R : List ℕ} {i own all : ℕ} → CappedTimes b R → i < n → (own ≡ 4 * n + i * n) × (own + n ≤ at.scratchWords n) × (own + n ≤ at.mostScratch)
+  -- what a sum takes: the chains, the PD, row i and the last row
+  pub sum-input : {links R : List ℕ} {i own all : ℕ} → Linked b links → CappedTimes b R → i < n → (own ≡ 4 * n + i * n) × (own + n ≤ at.scratchWords n) × (own + n ≤ at.mostScratch)
       → (all ≡ 4 * n + (n - 1) * n) × (all + n ≤ at.scratchWords n) × (all + n ≤ at.mostScratch)
-      → SumInput b (take (3 * n - 2 * n) (drop (2 * n) w)) (take (own + n - own) (drop own w)) (take (all + n - all) (drop all w)) R i
-  sum-input {R} {i} {own} {all} times task row last =
+      → SumInput b links (take (3 * n - 2 * n) (drop (2 * n) w)) (take (own + n - own) (drop own w)) (take (all + n - all) (drop all w)) R i
+  sum-input {links} {R} {i} {own} {all} chains times task row last =
       let words : at.scratchWords n ≤ length w = ready .room .words in
       record {
         sound = ready .room .sound;
         task = rw (← ready .room .tasks) task;
+        chains = chains;
         works = holds-part (taskPD b) (at.tasks b) (2 * n) (3 * n) w (omega (arith, ready .room .tasks)) (omega arith)
             (λ k h. ready .works k (tasks-in k h));
         owns = row-holds i own task (row .0) (row .1);

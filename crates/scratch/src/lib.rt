@@ -1,10 +1,12 @@
 // The word scratch: the figures of every task, laid out for the passes, and a task's sum from them.
 use figures::row::place;
+use sums::links::CHAIN_WORDS;
 ghost use mathlib.Core.Path.{_≡_};
 ghost use Prim.Native.Nat.{_<_};
 ghost use lib.ListN.{length};
 ghost use Rattle.figures.specs.Survey.{Held};
 ghost use Rattle.sums.specs.Sums.{taskSum};
+ghost use Rattle.sums.specs.Chains.{Linked};
 ghost use Rattle.sums.specs.Inputs.{CappedTimes};
 ghost use Rattle.folds.specs.Stored.{Stored};
 ghost use Rattle.scratch.specs.Scratch.{Room, RowAddable, withMD, Addable, Added, Prepared};
@@ -52,10 +54,28 @@ pub fn sum_of(board: &[u32], n: usize, scratch: &[u32], times: &[u32], i: usize)
     requires { ⌜ (Prepared (now board) n (now scratch)) × (CappedTimes (now board) (now times)) × (i < n) ⌝ }
     ensures { λ r. ⌜ r ≡ taskSum (now (board .entry)) (now (times .entry)) i ⌝ }
 {
+    let mut links = [0u32; CHAIN_WORDS];
+    sums::links::make(board, n, &mut links);
+    sum_along(board, n, &links, scratch, times, i)
+}
+
+// The same along chains that are made already: for callers that sum many tasks.
+pub fn sum_along(
+    board: &[u32],
+    n: usize,
+    links: &[u32],
+    scratch: &[u32],
+    times: &[u32],
+    i: usize,
+) -> u64
+    requires { ⌜ (Prepared (now board) n (now scratch)) × (CappedTimes (now board) (now times)) × (i < n) × Linked (now board) (now links) ⌝ }
+    ensures { λ r. ⌜ r ≡ taskSum (now (board .entry)) (now (times .entry)) i ⌝ }
+{
     let own = place(n, i);
     let all = place(n, n - 1);
     interference::task_sum(
         board,
+        links,
         &scratch[2 * n..3 * n],
         &scratch[own..own + n],
         &scratch[all..all + n],

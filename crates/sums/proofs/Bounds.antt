@@ -9,7 +9,7 @@ use native.Mathlib.Nat.{le-trans, le-refl, mul-div-cancel, mul-le-mul}
 use native.Mathlib.Omega.{arith}
 use lib.Dec.{eqb}
 use lib.ListN.{getD}
-use Rattle.folds.specs.Folds.{ceilDiv, sumTo, sumWhere}
+use Rattle.folds.specs.Folds.{ceilDiv, sumWhere}
 use Rattle.folds.proofs.Numbers.{le-or-lt, ceilDiv-self}
 use Rattle.folds.proofs.Folds.{sumWhere-bound}
 use Rattle.board.specs.Layout.{mostTasks, mostRefreshRows, cores, tasks, bus, slotsEach, slots, accessCycles, refresh, refreshInterval, refreshRows, refreshCycles, core, period, deadline}
@@ -19,7 +19,7 @@ use Rattle.figures.proofs.Overhead.{γ-bound}
 use Rattle.figures.proofs.Bounds.{taskPD-bound, taskMD-bound}
 use Rattle.sums.specs.Sums.{lowest, memoryDemand, isOther, isBefore, isAfter, overCores, window, ownAccesses, carryIn, coreAccesses, interference, busAccesses, refreshes, higherWork, taskSum}
 use Rattle.sums.specs.Limits.{mostCores, mostSlots, longestAccess, latestTime, mostWork, mostDemand, mostReleases, longestWindow, mostCarryIn, mostOwnAccesses, mostHigherWork, mostAccesses, mostInterference, mostBusAccesses}
-use Rattle.sums.specs.Inputs.{CappedTimes, releaseCost}
+use Rattle.sums.specs.Inputs.{CappedTimes, ownCosts}
 use Rattle.sums.proofs.Rising.{carry-mono}
 
 -- a sum of at most l terms
@@ -78,19 +78,19 @@ module _ (b R : List ℕ) (s : Sound b) (times : CappedTimes b R) where
     late = time-bound b R s times i task
 
     -- the releases of the tasks below n on its core, at a cost of at most m each
-    pub releaseCost-bound : (cost : ℕ → ℕ) (m n : ℕ) → n ≤ i + 1 → ((k : ℕ) → k < tasks b → cost k ≤ m)
-        → sumTo (releaseCost b R i cost) n ≤ mostTasks * (mostReleases * m)
-    releaseCost-bound cost m n few small =
+    pub ownCosts-bound : (cost : ℕ → ℕ) (m n : ℕ) → n ≤ i + 1 → ((k : ℕ) → k < tasks b → cost k ≤ m)
+        → ownCosts b R i cost n ≤ mostTasks * (mostReleases * m)
+    ownCosts-bound cost m n few small =
         where-bound n mostTasks (mostReleases * m) (λ k. eqb (core b k) (core b i)) _ (omega (arith, s .tasks .1))
         (λ k h. mul-le-mul (le-trans (ceilDiv-self (getD R i 0) (period b k)) late) (small k (omega arith)))
 
     pub ownAccesses-bound : ownAccesses b R i ≤ mostOwnAccesses
     unfolding ownAccesses
-    ownAccesses-bound = releaseCost-bound (memoryDemand b i) mostDemand _ (omega arith) (demand-bound b s i)
+    ownAccesses-bound = ownCosts-bound (memoryDemand b i) mostDemand _ (omega arith) (demand-bound b s i)
 
     higherWork-bound : higherWork b R i ≤ mostHigherWork
     unfolding higherWork
-    higherWork-bound = releaseCost-bound (taskPD b) mostWork _ (omega arith) (work-bound b s)
+    higherWork-bound = ownCosts-bound (taskPD b) mostWork _ (omega arith) (work-bound b s)
 
     -- A(n, y)
     abbrev A : ℕ → ℕ

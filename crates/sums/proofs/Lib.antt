@@ -4,6 +4,7 @@ pub mod TimesRead
 pub mod SixParts
 pub mod Numbers
 pub mod Windows
+pub mod Chains
 pub mod Releases
 pub mod Refreshes
 pub mod Bounds

@@ -14,14 +14,14 @@ use native.Mathlib.Omega.{arith}
 use lib.Dec.{eqb, ltb}
 use lib.ListN.{getD}
 use borrow.Author.Tests.{ltb-true, eqb-true, eqb-false, not-true}
-use Rattle.folds.specs.Folds.{ceilDiv, sumTo}
+use Rattle.folds.specs.Folds.{ceilDiv}
 use Rattle.folds.proofs.Numbers.{Shorter, shorter-same, div-rise, ceilDiv-rise, ceilDiv-mono}
 use Rattle.folds.proofs.Folds.{sumWhere-rise}
 use Rattle.board.specs.Layout.{word, cores, tasks, bus, slots, accessCycles, refresh, refreshInterval, refreshRows, refreshCycles, core, period}
 use Rattle.folds.proofs.Numbers.{and-both}
 use Rattle.figures.specs.Figures.{taskPD}
 use Rattle.sums.specs.Sums.{lowest, memoryDemand, isOther, isBefore, isAfter, overCores, window, ownAccesses, carryIn, coreAccesses, lowerAccesses, interference, busAccesses, refreshes, higherWork, taskSum}
-use Rattle.sums.specs.Inputs.{releaseCost}
+use Rattle.sums.specs.Inputs.{ownCosts}
 use Rattle.sums.proofs.Numbers.{product-cong}
 
 -- W rises with its window, and when the period falls
@@ -150,20 +150,20 @@ module _ (b b' R R' : List ℕ) (heavier : Heavier b b') where
     same-core = heavier .cores i task
 
     -- the releases of the tasks below n on its core, at a cost that rises
-    releaseCost-rise : (cost cost' : ℕ → ℕ) (n : ℕ) → n ≤ i + 1 → ((k : ℕ) → k < tasks b → cost k ≤ cost' k)
-        → sumTo (releaseCost b R i cost) n ≤ sumTo (releaseCost b' R' i cost') n
-    releaseCost-rise cost cost' n few more =
+    ownCosts-rise : (cost cost' : ℕ → ℕ) (n : ℕ) → n ≤ i + 1 → ((k : ℕ) → k < tasks b → cost k ≤ cost' k)
+        → ownCosts b R i cost n ≤ ownCosts b' R' i cost' n
+    ownCosts-rise cost cost' n few more =
         sumWhere-rise (λ k. eqb (core b k) (core b i)) (λ k. eqb (core b' k) (core b' i)) _ _ _ _ (le-refl n)
         (λ k h e. let l : k < tasks b = omega arith in
         (on-core k l same-core e, mul-le-mul (ceilDiv-rise (heavier .periods k l) t t' own) (more k l)))
 
     ownAccesses-rise : ownAccesses b R i ≤ ownAccesses b' R' i
     unfolding ownAccesses
-    ownAccesses-rise = releaseCost-rise _ _ _ (omega arith) (λ k h. le-of-eq (heavier .demands i k task h))
+    ownAccesses-rise = ownCosts-rise _ _ _ (omega arith) (λ k h. le-of-eq (heavier .demands i k task h))
 
     higherWork-rise : higherWork b R i ≤ higherWork b' R' i
     unfolding higherWork
-    higherWork-rise = releaseCost-rise _ _ _ (omega arith) (heavier .work)
+    higherWork-rise = ownCosts-rise _ _ _ (omega arith) (heavier .work)
 
     -- a core other than that of task i
     others-on : OthersRise b R R' i → (y : ℕ) → (y ≡ core b i → ⊥) → RiseOn b R R' y

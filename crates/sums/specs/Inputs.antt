@@ -4,13 +4,14 @@
 use Prim.Native.Nat.{ℕ, _+_, _*_, _≤_, _<_}
 use mathlib.Core.List.{List}
 use mathlib.Core.Path.{_≡_}
-use lib.Dec.{eqb}
 use lib.ListN.{length, getD}
-use Rattle.folds.specs.Folds.{onlyIf}
+use Rattle.folds.specs.Folds.{sumWhere}
 use Rattle.board.specs.Layout.{tasks, core}
 use Rattle.board.specs.Sound.{Sound}
 use Rattle.figures.specs.Figures.{taskPD}
 use Rattle.sums.specs.Sums.{lowest, bound, releases, memoryDemand}
+use Rattle.sums.specs.Limits.{latestTime}
+use Rattle.sums.specs.Chains.{isOn, Linked}
 
 -- the list begins with f 0 .. f (n - 1)
 pub record Holds (n : ℕ) (f : ℕ → ℕ) (l : List ℕ) : Type 0 where
@@ -29,15 +30,27 @@ pub record RowInput (b row R : List ℕ) (j : ℕ) : Type 0 where
   pub demands : Holds (tasks b) (memoryDemand b j) row
   pub times : CappedTimes b R
 
--- task i at the times R, the tasks' PD, and the rows D'(i, _) and D'(n, _)
-pub record SumInput (b pd own all R : List ℕ) (i : ℕ) : Type 0 where
+-- what the accesses of whole cores are added up from: task n, which is j, with its row and the times R, a window of t cycles, and the chains of the cores
+pub record CoresInput (b links row R : List ℕ) (t j : ℕ) : Type 0 where
+  pub rows : RowInput b row R j
+  pub last : j ≡ lowest b
+  pub early : t ≤ latestTime
+  pub chains : Linked b links
+
+-- task i at the times R, the chains of the cores, the tasks' PD, and the rows D'(i, _) and D'(n, _)
+pub record SumInput (b links pd own all R : List ℕ) (i : ℕ) : Type 0 where
   pub sound : Sound b
   pub task : i < tasks b
+  pub chains : Linked b links
   pub works : Holds (tasks b) (taskPD b) pd
   pub owns : Holds (tasks b) (memoryDemand b i) own
   pub alls : Holds (tasks b) (memoryDemand b (lowest b)) all
   pub times : CappedTimes b R
 
--- what task k adds to S, or to the work above task i: its releases at so much each, if it is on the core of task i
+-- what the releases of task k within the time of task i cost, at so much each
 abbrev pub releaseCost : List ℕ → List ℕ → ℕ → (ℕ → ℕ) → ℕ → ℕ
-releaseCost b R i cost k = onlyIf (eqb (core b k) (core b i)) (releases b i k (getD R i 0) * cost k)
+releaseCost b R i cost k = releases b i k (getD R i 0) * cost k
+
+-- over the first n tasks that are on the core of task i: S, or the work above it
+abbrev pub ownCosts : List ℕ → List ℕ → ℕ → (ℕ → ℕ) → ℕ → ℕ
+ownCosts b R i cost n = sumWhere (isOn b (core b i)) (releaseCost b R i cost) n

@@ -1,8 +1,8 @@
 // The releases of the tasks of one core.
+use crate::links::above;
 use crate::rows::demand;
 use crate::rows::time;
 use crate::rows::work;
-use board::fields::core;
 use board::fields::period;
 use folds::ceil_div_tested;
 use folds::wide;
@@ -14,6 +14,7 @@ ghost use Rattle.board.specs.Sound.{Sound};
 ghost use Rattle.figures.specs.Figures.{taskPD};
 ghost use Rattle.sums.specs.Sums as spec;
 ghost use Rattle.sums.specs.Limits.{mostReleases, mostOwnAccesses, mostHigherWork};
+ghost use Rattle.sums.specs.Chains.{Linked};
 ghost use Rattle.sums.specs.Inputs.{Holds, CappedTimes, RowInput, releaseCost};
 
 // The accesses and the work of some releases.
@@ -30,7 +31,7 @@ fn releases(board: &[u32], times: &[u32], i: usize, k: usize) -> u64
     ceil_div_tested(time(board, times, i), wide(period(board, k)))
 }
 
-// The sums with the releases of task k added, if it is on the core of task i.
+// The sums with the releases of task k added.
 fn with_task(
     sums: OwnSums,
     board: &[u32],
@@ -45,22 +46,25 @@ fn with_task(
     ensures { λ r. ⌜ r .accesses ≡ sums .accesses + releaseCost (now (board .entry)) (now (times .entry)) i (spec.memoryDemand (now (board .entry)) i) k ⌝ }
     ensures { λ r. ⌜ r .work ≡ sums .work + releaseCost (now (board .entry)) (now (times .entry)) i (taskPD (now (board .entry))) k ⌝ }
 {
-    if core(board, k) == core(board, i) {
-        let n = releases(board, times, i, k);
-        let accesses = n * demand(board, own, i, k);
-        let cycles = n * work(board, pd, k);
-        OwnSums {
-            accesses: sums.accesses + accesses,
-            work: sums.work + cycles,
-        }
-    } else {
-        sums
+    let n = releases(board, times, i, k);
+    let accesses = n * demand(board, own, i, k);
+    let cycles = n * work(board, pd, k);
+    OwnSums {
+        accesses: sums.accesses + accesses,
+        work: sums.work + cycles,
     }
 }
 
-// S, and the work of the tasks above task i on its core.
-pub fn released(board: &[u32], pd: &[u32], own: &[u32], times: &[u32], i: usize) -> OwnSums
-    requires { ⌜ RowInput (now board) (now own) (now times) i × Holds (at.tasks (now board)) (taskPD (now board)) (now pd) ⌝ }
+// S, and the work of the tasks above task i on its core, along the chain of that core.
+pub fn released(
+    board: &[u32],
+    links: &[u32],
+    pd: &[u32],
+    own: &[u32],
+    times: &[u32],
+    i: usize,
+) -> OwnSums
+    requires { ⌜ RowInput (now board) (now own) (now times) i × Holds (at.tasks (now board)) (taskPD (now board)) (now pd) × Linked (now board) (now links) ⌝ }
     ensures { λ r. ⌜ r .accesses ≡ spec.ownAccesses (now (board .entry)) (now (times .entry)) i ⌝ }
     ensures { λ r. ⌜ r .work ≡ spec.higherWork (now (board .entry)) (now (times .entry)) i ⌝ }
 {
@@ -68,10 +72,11 @@ pub fn released(board: &[u32], pd: &[u32], own: &[u32], times: &[u32], i: usize)
         accesses: 0,
         work: 0,
     };
-    let mut k: usize = 0;
-    while k < i {
-        sums = with_task(sums, board, pd, own, times, i, k);
-        k += 1;
+    let mut k = above(board, links, i);
+    while 0 < k {
+        let task = k - 1;
+        sums = with_task(sums, board, pd, own, times, i, task);
+        k = above(board, links, task);
     }
     let last = releases(board, times, i, i) * demand(board, own, i, i);
     OwnSums {

@@ -18,11 +18,11 @@ use Rattle.interference.proofs.task_parts.Tie as tie
 
 interference-requires : tie.Need-interference-requires
 interference-requires c κs =
-    let h = c .before .before .before .before .before .before .pre in
-    ((own-row _ _ _ _ _ _ h, all-row _ _ _ _ _ _ h), c .released .ensures .0)
+    let h = c .before .before .before .before .before .before .before .pre in
+    ((own-row _ _ _ _ _ _ _ h, all-row _ _ _ _ _ _ _ h, h .chains), c .released .ensures .0)
 
 abbrev start : tie.After-interference → tie.Start
-start c = c .before .before .before .before .before .before .before
+start c = c .before .before .before .before .before .before .before .before
 
 -- B
 abbrev count : tie.After-interference → ℕ
@@ -45,7 +45,7 @@ refreshes-requires c κs =
     let h = start (counted c) .pre in
     ((h .sound, h .times, h .task), count-is (counted c))
 
-mul-refresh : tie.Need-mul-t18
+mul-refresh : tie.Need-mul-t19
 mul-refresh c =
     let s = start (counted (c .before)) in
     let h = s .pre in

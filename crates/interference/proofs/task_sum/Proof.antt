@@ -12,7 +12,7 @@ use Rattle.interference.proofs.task_sum.Tie as tie
 -- the whole sum, which is below 2^64
 fits : (c : tie.After-task-parts) → let p = c .task-parts .result in p .work + p .higher + p .own + p .others + p .blocking + p .refresh < 2 ^ 64
 fits c =
-    let s = c .before .before .before .before .before .before in
+    let s = c .before .before .before .before .before .before .before in
     let h = s .pre in
     lt-of-le-of-lt (le-of-eq (sumParts-add _ _ _ (c .task-parts .ensures))) (taskSum-bound _ _ (h .sound) (h .times) _ (h .task))
 

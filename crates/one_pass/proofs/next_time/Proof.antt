@@ -14,7 +14,7 @@ next-time-spec =
     tie.close
     (tie.spec
     (λ c. sym (length-take-le _ _ (omega arith)))
-    (λ c κs. let start = c .before .before .before in (start .pre .1, startable-times (start .pre .0), start .pre .2))
+    (λ c κs. let start = c .before .before .before .before in (start .pre .1, startable-times (start .pre .0), start .pre .2, start .pre .3))
     (λ c κs. search needs)
     (λ c. search needs)
     (λ c κs. search needs)
@@ -22,5 +22,5 @@ next-time-spec =
     (λ c. search needs)
     (λ c.
     c .smaller .ensures
-    ∙ ap₂ min (c .before .before .before .sum-of .ensures)
+    ∙ ap₂ min (c .before .before .before .sum-along .ensures)
     (c .before .wide .ensures .0 ∙ ap (λ (d : ℕ). d + 1) (c .before .before .bound .ensures .0))))

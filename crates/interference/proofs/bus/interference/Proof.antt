@@ -31,9 +31,16 @@ returns-5 : tie.Need-returns-5
 returns-5 c =
     rw (sym (c .before .before .bus .ensures .0) ∙ tdma-code (c .before)) (c .tdma .ensures)
 
+round-robin-requires : tie.Need-round-robin-requires
+round-robin-requires c κs =
+    let s = c .before .before .before .before .before .before .before in
+    let h = s .pre .0 in
+    let code = sym (c .before .bus .ensures .0) ∙ c .match .keys4 in
+    ((h .1, h .0 .task, h .2, rw code (lit≤ tt)), s .pre .1)
+
 tdma-requires : tie.Need-tdma-requires
 tdma-requires c κs =
-    let s = c .before .before .before .before .before .before in
+    let s = c .before .before .before .before .before .before .before in
     let h = s .pre .0 .0 in
     let code = sym (c .before .bus .ensures .0) ∙ tdma-code c in
     ((h .sound, rw code (lit≤ tt), le-trans (le-of-eq (s .pre .1)) (ownAccesses-bound _ _ (h .sound) (h .times) _ (h .task))), s .pre .1)
@@ -41,5 +48,5 @@ tdma-requires c κs =
 pub interference-spec : {M : Type 1} → statement M
 interference-spec =
     tie.close
-    (tie.spec (λ c κs. search needs) (λ c κs. search needs) (λ c κs. search needs) (λ c κs. search needs) (λ c κs. search needs) tdma-requires
+    (tie.spec (λ c κs. search needs) (λ c κs. search needs) (λ c κs. search needs) (λ c κs. search needs) round-robin-requires tdma-requires
     returns returns-2 returns-3 returns-4 returns-5)

@@ -1,10 +1,10 @@
--- `carried::tables::carry_off` meets its contract.
+-- `carried::others::carry_off` meets its contract.
 -- Assumes nothing.
 use borrow.Author.Needs.{needs}
 use borrow.Author.Tests.{eq-eqb, ne-eqb}
 use mathlib.Core.Path.{sym, _∙_}
-use Rattle.carried.proofs.tables.carry_off.Statement.{statement}
-use Rattle.carried.proofs.tables.carry_off.Tie as tie
+use Rattle.carried.proofs.others.carry_off.Statement.{statement}
+use Rattle.carried.proofs.others.carry_off.Tie as tie
 
 returns : tie.Need-returns
 returns c = rw (eq-eqb _ _ (sym (c .before .core .ensures .0) ∙ c .if1 .taken))
