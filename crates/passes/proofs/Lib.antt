@@ -7,4 +7,5 @@ pub mod Lighter
 pub mod Looping
 pub mod Orders
 pub mod Visits
+pub mod InOrder
 pub mod Cases

@@ -7,19 +7,11 @@ use Prim.Native.Nat.{ℕ, _≤_, _<_}
 use native.Mathlib.Decide.{ℕ-discrete}
 use native.Mathlib.Nat.{le-trans, le-refl}
 use native.Mathlib.Omega.{arith}
-use lib.ListN.{getD, set, length-set}
+use lib.ListN.{getD, length-set}
 use lib.Seq.{getD-set-same, getD-set-other}
 use Rattle.passes.specs.Passes.{System, capped, Below, Monotone}
+use Rattle.passes.specs.Visits.{visit, inTurn}
 use Rattle.passes.proofs.Ascending.{Rising, Closed, Ascending, getD-pass}
-
--- task i gets its capped sum at the newest times
-abbrev visit : System → List ℕ → ℕ → List ℕ
-visit S R i = set R i (capped S R i)
-
--- a pass that visits the tasks of the list one after the other
-unfoldable pub inTurn : System → List ℕ → List ℕ → List ℕ
-inTurn S [] R = R
-inTurn S (i ∷ order) R = inTurn S order (visit S R i)
 
 -- the list names task k
 abbrev pub Names : List ℕ → ℕ → Type 0
@@ -36,11 +28,11 @@ module _ (S : System) (mono : Monotone S) where
     visit-is : (k : ℕ) → k < S .count → (getD (visit S R i) k 0 ≡ capped S R k) ⊎ (getD (visit S R i) k 0 ≡ getD R k 0)
     visit-is k h = elim (ℕ-discrete k i) [ yes e ↦ inl (visit-here k h e) | no n ↦ inr (getD-set-other R i k (capped S R i) 0 n) ]
 
-    visit-raises : Below (S .count) R (visit S R i)
+    pub visit-raises : Below (S .count) R (visit S R i)
     visit-raises k h =
         ⊎-elim (λ e. omega (arith, rising .rises k h, getD-pass S R k h)) (λ e. omega arith) (visit-is k h)
 
-    visit-rising : Rising S (visit S R i)
+    pub visit-rising : Rising S (visit S R i)
     visit-rising =
         record {
           size = length-set R i (capped S R i) ∙ rising .size;
