@@ -92,6 +92,10 @@ bit-not (suc n) x (suc j) h k =
     ap (λ (y : ℕ). bit y (suc j)) (not-half n x h) ∙ bit-high ((2 ^ n - 1) - x / 2) (1 - x % 2) j (omega arith)
     ∙ bit-not n (x / 2) j (half-lt x n h) (le-of-suc-le-suc k) ∙ ap not (sym (bit-suc x j))
 
+-- all bits set
+pub bit-all : (k : ℕ) → k < 64 → bit (2 ^ 64 - 1) k ≡ true
+bit-all k h = bit-not 64 0 k (omega arith) h ∙ ap not (bit-none k)
+
 bit-pow : (k j : ℕ) → bit (2 ^ k) j ≡ eqb j k
 bit-pow zero zero = bit-zero 1
 bit-pow zero (suc j) = bit-suc 1 j ∙ bit-none j ∙ sym (eqb·suc-zero j)

@@ -1,6 +1,7 @@
 // Sets of numbers below 256, as the bits of four 64-bit words: s is bit s mod 64 (bit 0 lowest) of word floor(s/64).
 // The contracts hold for any four words.
 pub mod records;
+pub mod word;
 
 ghost use mathlib.Core.Path.{_≡_};
 ghost use mathlib.Core.Bool.{not, _&&_, _||_, false};
