@@ -1,7 +1,7 @@
 -- Laws of the sums, maxima, counts and tests: none, one more, equal parts, larger parts, a bound, a prefix.
 -- Assumes nothing.
 use Prim.Native.Nat.{ℕ, zero, suc, _+_, _*_, _≤_, _<_, zero-le, max}
-use mathlib.Core.Bool.{Bool, true, false, _||_}
+use mathlib.Core.Bool.{Bool, true, false, _||_, or-true}
 use mathlib.Core.Logic.{_⊎_, inl, inr, ⊎-elim}
 use mathlib.Core.Path.{_≡_, refl, sym, ap, ap₂, _∙_}
 use native.Mathlib.Nat.{le-trans, eq-or-lt-of-le, le-of-suc-le-suc, not-suc-le-zero, suc-mul, add-mul, zero-mul, mul-one, add-zero, add-suc, add-assoc}
@@ -218,3 +218,11 @@ pub anyTo-cong : (test test' : ℕ → Bool) (n : ℕ) → ((k : ℕ) → k < n 
 unfolding anyTo
 anyTo-cong test test' zero all = refl
 anyTo-cong test test' (suc n) all = ap₂ _||_ (anyTo-cong test test' n (λ k h. all k (omega arith))) (all n (omega arith))
+
+-- one that passes is enough
+pub anyTo-some : (test : ℕ → Bool) (n k : ℕ) → k < n → test k ≡ true → anyTo test n ≡ true
+unfolding anyTo
+anyTo-some test zero k h e = absurd (not-suc-le-zero h)
+anyTo-some test (suc n) k h e =
+    below-suc (λ j. test j ≡ true → (anyTo test n || test n) ≡ true) n (λ j l here. ap (λ t. t || test n) (anyTo-some test n j l here))
+    (λ here. ap (λ t. anyTo test n || t) here ∙ or-true (anyTo test n)) k h e
