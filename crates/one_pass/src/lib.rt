@@ -17,7 +17,7 @@ ghost use Rattle.one_pass.specs.Kept.{Told, Kept};
 ghost use Rattle.one_pass.specs.Startable.{Startable};
 
 // The next time of task i: its sum, or its bound + 1 where the sum is larger.
-fn next_time(board: &[u32], n: usize, links: &[u32], scratch: &[u32], i: usize) -> u32
+pub fn next_time(board: &[u32], n: usize, links: &[u32], scratch: &[u32], i: usize) -> u32
     requires { ⌜ (Startable (now board) n (now scratch)) × (Prepared (now board) n (now scratch)) × (i < n) × Linked (now board) (now links) ⌝ }
     ensures { λ r. ⌜ r ≡ capped (system (now (board .entry))) (take n (now (scratch .entry))) i ⌝ }
 {

@@ -1,4 +1,5 @@
 -- Laws of a board's passes, and of what is delivered.
 pub mod Ends
+pub mod Counting
 pub mod Underway
 pub mod Delivered

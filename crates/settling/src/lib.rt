@@ -18,7 +18,7 @@ pub enum Passes {
 }
 
 // The passes made, where the limit has so many left.
-fn made(limit: u32, left: u32) -> u32
+pub fn made(limit: u32, left: u32) -> u32
     requires { ⌜ left ≤ limit ⌝ }
     ensures { λ r. ⌜ r ≡ limit - left ⌝ }
 {

@@ -10,7 +10,8 @@ use Rattle.scratch.specs.Scratch.{Prepared}
 use Rattle.folds.proofs.Stored.{filled-stored}
 use Rattle.scratch.proofs.Prepared.{passable, passable-kept, prepared-stored}
 use Rattle.settling.specs.declared.Passes.the-variants.{Needed}
-use Rattle.settling.proofs.Underway.{Underway, underway-start, underway-startable, underway-over, underway-next, underway-still, ended-cleared}
+use Rattle.settling.proofs.Underway.{Underway, underway-start, underway-startable, underway-over, underway-next, underway-still}
+use Rattle.settling.proofs.Counting.{ended-cleared}
 use Rattle.settling.proofs.run.Statement.{statement}
 use Rattle.settling.proofs.run.Tie as tie
 
