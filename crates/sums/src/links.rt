@@ -10,8 +10,11 @@ ghost use Rattle.board.specs.Sound.{Sound, Between};
 ghost use Rattle.sums.specs.Limits.{mostCores};
 ghost use Rattle.sums.specs.Chains.{isOn, Chained, Linked};
 
+// ℓ.
+pub const MOST_CORES: usize = 8;
+
 // The words of the chains: one a task, then one a core.
-pub const CHAIN_WORDS: usize = MOST_TASKS + 8;
+pub const CHAIN_WORDS: usize = MOST_TASKS + MOST_CORES;
 
 // Where the last task of core y stands.
 fn last_place(y: u32) -> usize

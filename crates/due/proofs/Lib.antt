@@ -1,0 +1,2 @@
+-- Laws of the tasks that are due.
+pub mod DueTasks

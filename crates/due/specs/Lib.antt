@@ -1,0 +1,2 @@
+-- Sets of tasks as bits of a word.
+pub mod DueTasks

@@ -1,0 +1,2 @@
+-- Laws of the loop over passes in an order.
+pub mod Turning

@@ -1,0 +1,3 @@
+-- Laws of visits, and of a pass of them.
+pub mod Visiting
+pub mod Turned
