@@ -1,21 +1,41 @@
 -- What each call knows where no row refuses.
 -- Assumes nothing.
-use Prim.Native.Nat.{ℕ, _+_, _≤_, zero-le}
+use Prim.Native.Nat.{ℕ, _+_, _≤_, _<_, zero-le}
+use mathlib.Core.Bool.{true, not, false≢true}
 use mathlib.Core.List.{List}
-use mathlib.Core.Path.{_≡_}
-use lib.Dec.{leb}
+use mathlib.Core.Path.{_≡_, sym, _∙_}
+use lib.Dec.{leb, eqb}
 use lib.ListN.{length, getD}
-use borrow.Author.Tests.{leb-true}
+use borrow.Author.Tests.{leb-true, eqb-true, eq-eqb, not-true}
+use Rattle.folds.proofs.Numbers.{and-both}
+use Rattle.folds.proofs.Folds.{anyTo-some}
+use Rattle.passes.specs.Visits.{Permutation}
 use Rattle.board.specs.Layout.{tasks, scratchWords}
 use Rattle.board.specs.Sound.{Between}
 use Rattle.ranges.specs.Ranges.{within}
-use Rattle.refusals.specs.Refusals.{refuseUnless, _orElse_, refusalOf}
+use Rattle.refusals.specs.Refusals.{refuseUnless, refuseFirst, _orElse_, refusalOf}
 use Rattle.refusals.specs.declared.Verdict.the-variants.{Passed}
 use Rattle.refusals.proofs.Verdicts.{orElse-passed, refuseUnless-passed}
 use Rattle.refusals.proofs.Sound.{sound, within-true, refuseFirst-passed}
 use Rattle.sums.specs.Sums.{bound}
-use Rattle.checks.specs.Refusals.{taskRow, timesRow, scratchRow, tableRow, timeOk, timeRow, figuresRefusal, overheadRefusal, weighRefusal, analyseRefusal}
-use Rattle.checks.specs.Accepted.{FiguresTaken, OverheadTaken, WeighTaken, AnalyseTaken}
+use Rattle.checks.specs.Refusals.{taskRow, timesRow, scratchRow, tableRow, timeOk, timeRow, namedBefore, numberOk, orderRow, figuresRefusal, overheadRefusal, weighRefusal, analyseRefusal, inOrderRefusal}
+use Rattle.checks.specs.Accepted.{FiguresTaken, OverheadTaken, WeighTaken, AnalyseTaken, InOrderTaken}
+use Rattle.checks.proofs.Checks.{orElse-assoc}
+
+-- a list that passes row 16
+module _ (n : ℕ) (order : List ℕ) (passed : orderRow n order ≡ Passed) where
+  row16 : (refuseUnless 16 (eqb (length order) n) (length order) ≡ Passed) × (refuseFirst 16 (numberOk n order) 0 n ≡ Passed)
+  row16 = orElse-passed _ _ passed
+
+  number-ok : (k : ℕ) → k < n → (within 1 n (getD order k 0) ≡ true) × (not (namedBefore order k (getD order k 0)) ≡ true)
+  number-ok k h = and-both _ _ (refuseFirst-passed 16 (numberOk n order) 0 n (row16 .1) k zero-le h)
+
+  order-taken : Permutation n order
+  order-taken = record {
+    size = eqb-true (length order) n (refuseUnless-passed 16 _ _ (row16 .0));
+    within = λ k h. within-true 1 n (getD order k 0) (number-ok k h .0);
+    differ = λ j k l h same. false≢true (sym (not-true _ (number-ok k h .1)) ∙ anyTo-some _ k j l (eq-eqb _ _ same));
+  }
 
 module _ (b : List ℕ) where
   abbrev n : ℕ
@@ -71,3 +91,13 @@ module _ (b : List ℕ) where
         };
         table = row-length 13 n room (last .1);
       }
+
+  -- the rows of Analyse, and then row 16
+  pub inOrderRefusal-is : (times scratch room : ℕ) (order : List ℕ) → inOrderRefusal b times scratch room order ≡ (analyseRefusal b times scratch room orElse orderRow n order)
+  unfolding inOrderRefusal analyseRefusal
+  inOrderRefusal-is times scratch room order = simp orElse-assoc
+
+  pub in-order-taken : (times scratch room : ℕ) (order : List ℕ) → inOrderRefusal b times scratch room order ≡ Passed → InOrderTaken b times scratch room order
+  in-order-taken times scratch room order e =
+      let rows = orElse-passed (analyseRefusal b times scratch room) (orderRow n order) (sym (inOrderRefusal-is times scratch room order) ∙ e) in
+      record { analyse = analyse-taken times scratch room (rows .0); permuted = order-taken n order (rows .1) }

@@ -9,6 +9,10 @@ use Rattle.refusals.specs.declared.Verdict.the-variants.{Passed, Refused}
 use Rattle.board.specs.Layout.{tasks}
 use Rattle.checks.specs.Accepted.{Judged}
 
+pub orElse-assoc : (u v w : Verdict) → ((u orElse v) orElse w) ≡ (u orElse v orElse w)
+orElse-assoc Passed v w = refl
+orElse-assoc (Refused number place) v w = refl
+
 -- a row, and then rows that are known where it passes
 pub row-then : {r u v w : Verdict} (x : Verdict) → r ≡ (u orElse v) → u ≡ x → (u ≡ Passed → v ≡ w) → r ≡ (x orElse w)
 row-then {u = Passed} {v} {w} x e same rest = e ∙ rest refl ∙ ap (λ (y : Verdict). y orElse w) same

@@ -3,6 +3,7 @@
 use Prim.Native.Nat.{ℕ, _≤_, _<_}
 use mathlib.Core.List.{List}
 use mathlib.Core.Path.{_≡_}
+use Rattle.passes.specs.Visits.{Permutation}
 use Rattle.board.specs.Layout as at
 use Rattle.board.specs.Sound.{Between, Sound}
 use Rattle.refusals.specs.Refusals.{refusalOf}
@@ -40,3 +41,8 @@ pub record Analysable (b : List ℕ) (times scratch : ℕ) : Type 0 where
 pub record AnalyseTaken (b : List ℕ) (times scratch room : ℕ) : Type 0 where
   pub analysable : Analysable b times scratch
   pub table : at.tasks b ≤ room
+
+-- and the list has the number of each task once
+pub record InOrderTaken (b : List ℕ) (times scratch room : ℕ) (order : List ℕ) : Type 0 where
+  pub analyse : AnalyseTaken b times scratch room
+  pub permuted : Permutation (at.tasks b) order

@@ -1,6 +1,8 @@
 // The checks that each call makes of what it takes: the rows of its board, and then its own in the table's order.
+pub mod order;
 pub mod rows;
 
+use order::order_row;
 use refusals::Verdict;
 use refusals::or_else;
 use rows::board_rows;
@@ -10,7 +12,7 @@ use rows::task_row;
 use rows::time_row;
 use rows::times_row;
 ghost use mathlib.Core.Path.{_≡_};
-ghost use Rattle.checks.specs.Refusals.{figuresRefusal, overheadRefusal, weighRefusal, analyseRefusal};
+ghost use Rattle.checks.specs.Refusals.{figuresRefusal, overheadRefusal, weighRefusal, analyseRefusal, inOrderRefusal};
 
 // What `figures` checks, its table being of this many records.
 pub fn check_figures(board: &[u32], room: usize) -> Verdict
@@ -58,6 +60,30 @@ pub fn check_analyse(board: &[u32], times: usize, scratch: usize, room: usize) -
         or_else(
             times_row(n, times),
             or_else(scratch_row(n, scratch), table_row(n, room)),
+        ),
+    )
+}
+
+// What `analyse_in_order` checks, its buffers being of these lengths.
+pub fn check_in_order<'a>(
+    board: &'a [u32],
+    times: usize,
+    scratch: usize,
+    room: usize,
+    order: &'a [u32],
+) -> Verdict
+    ensures { λ r. ⌜ r ≡ inOrderRefusal (now (board .entry)) times scratch room (now (order .entry)) ⌝ }
+{
+    let c = board_rows(board);
+    let n = c.tasks;
+    let v = c.verdict;
+    let table = table_row(n, room);
+    let listed = order_row(n, order);
+    or_else(
+        v,
+        or_else(
+            times_row(n, times),
+            or_else(scratch_row(n, scratch), or_else(table, listed)),
         ),
     )
 }
