@@ -15,9 +15,10 @@ use Rattle.figures.specs.Figures.{figureOf}
 use Rattle.figures.specs.Overhead.{γ}
 use Rattle.sums.specs.Sums.{taskSum}
 use Rattle.passes.specs.Passes.{System, pass, passesBy, settledBy, firstLate}
+use Rattle.passes.specs.Visits.{inOrder}
 -- the passes of a board
 pub use Rattle.one_pass.specs.System.{system}
-use Rattle.answers.specs.Refusals.{figuresRefusal, overheadRefusal, weighRefusal, analyseRefusal}
+use Rattle.answers.specs.Refusals.{figuresRefusal, overheadRefusal, weighRefusal, analyseRefusal, inOrderRefusal}
 use Rattle.answers.specs.declared.Answer.{Answer}
 use Rattle.answers.specs.declared.Answer.the-variants.{Times, Late, Spent, Refused}
 use Rattle.answers.specs.declared.Outcome.{Outcome}
@@ -61,6 +62,10 @@ answerBy v b = answerFor v b (pass (system b))
 unfoldable pub analyseAnswer : List ℕ → ℕ → ℕ → ℕ → Answer
 analyseAnswer b times scratch table = answerBy (analyseRefusal b times scratch table) b
 
+-- its sibling, whose passes visit the tasks in the order of a list of task numbers: by its own passes
+unfoldable pub inOrderAnswer : List ℕ → ℕ → ℕ → ℕ → List ℕ → Answer
+inOrderAnswer b times scratch table order = answerFor (inOrderRefusal b times scratch table order) b (inOrder (system b) order)
+
 -- ---- lent buffers afterwards
 
 -- the times buffer, which was `old`, after passes by a step and the answer r: the settled times are its first n words where the answer is times
@@ -70,7 +75,7 @@ timesLeft S step (Late task passes) old = old
 timesLeft S step Spent old = old
 timesLeft S step (Refused number place) old = old
 
--- after Analyse answered r
+-- after Analyse or its sibling answered r
 abbrev pub timesAfter : List ℕ → Answer → List ℕ → List ℕ
 timesAfter b r old = timesLeft (system b) (pass (system b)) r old
 

@@ -1,0 +1,2 @@
+-- Laws of the times that passes in order leave.
+pub mod SameTimes
