@@ -1,5 +1,6 @@
--- Demand 3 of the definitions, and what the proofs of the calls share.
+-- Demand 3 of the definitions, passes in order beside Analyse's, and what the proofs of the calls share.
 pub mod Demand
+pub mod InOrder
 pub mod Table
 pub mod Steps
 pub mod Loans

@@ -1,4 +1,4 @@
-// The four public calls: figures, overhead, weigh and analyse. The types of their answers and of the table are passed on, so that a caller
+// The public calls: figures, overhead, weigh, analyse, and its sibling analyse_in_order. The types of their answers and of the table are passed on, so that a caller
 // imports them from here.
 pub use answers::Answer;
 pub use answers::Outcome;
@@ -9,9 +9,11 @@ ghost use mathlib.Core.Path.{_≡_};
 ghost use lib.ListN.{length};
 ghost use Rattle.board.specs.Layout.{mostTasks, passLimit};
 ghost use Rattle.refusals.specs.declared.Verdict.the-variants.{Passed};
-ghost use Rattle.answers.specs.Refusals.{figuresRefusal, analyseRefusal};
-ghost use Rattle.answers.specs.Answers.{system, figuresAnswer, overheadAnswer, weighAnswer, analyseAnswer, timesAfter, tableAfter, ScratchAfter};
-ghost use Rattle.calls.specs.Demand.{Demand3};
+ghost use Rattle.passes.specs.Visits.{inOrder};
+ghost use Rattle.answers.specs.Refusals.{figuresRefusal, analyseRefusal, inOrderRefusal};
+ghost use Rattle.answers.specs.Answers.{system, figuresAnswer, overheadAnswer, weighAnswer, analyseAnswer, inOrderAnswer, timesAfter, tableAfter, ScratchAfter};
+ghost use Rattle.calls.specs.Demand.{Demand3, Demand3By};
+ghost use Rattle.calls.specs.InOrder.{LikeAnalyse};
 
 // The response times of a board. Unless refused, the table is filled as `figures` fills it, and the scratch ends with free contents.
 pub fn analyse(
@@ -44,6 +46,49 @@ pub fn analyse(
         &mut n,
         &mut words,
         &mut sets,
+    );
+    table::fill(board, n, &words, &sets, table);
+    answer
+}
+
+// `analyse` with passes that visit the tasks in the order of a list of task numbers, each task using the newest times. It answers by its own passes, and
+// leaves the buffers as `analyse` does; its times are those of `analyse`, and it needs no more passes.
+pub fn analyse_in_order<'a>(
+    board: &'a [u32],
+    times: &mut [u32],
+    scratch: &mut [u32],
+    table: &mut [Figure],
+    order: &'a [u32],
+) -> Answer
+    ensures answer { λ r. ⌜ r ≡ inOrderAnswer (now (board .entry))
+        (length (now (times .entry))) (length (now (scratch .entry))) (length (now (table .entry))) (now (order .entry)) ⌝ }
+    ensures times { λ r. ⌜ now (times .exit) ≡ timesAfter (now (board .entry)) r (now (times .entry)) ⌝ }
+    ensures table { λ _. ⌜ now (table .exit) ≡ tableAfter (now (board .entry)) (inOrderRefusal (now (board .entry))
+        (length (now (times .entry))) (length (now (scratch .entry))) (length (now (table .entry))) (now (order .entry))) (now (table .entry)) ⌝ }
+    ensures scratch { λ _. ⌜ ScratchAfter (inOrderRefusal (now (board .entry))
+        (length (now (times .entry))) (length (now (scratch .entry))) (length (now (table .entry))) (now (order .entry)))
+        (now (scratch .entry)) (now (scratch .exit)) ⌝ }
+    ensures demand3 { λ r. ⌜ (inOrderRefusal (now (board .entry))
+        (length (now (times .entry))) (length (now (scratch .entry))) (length (now (table .entry))) (now (order .entry)) ≡ Passed
+        → Demand3By (system (now (board .entry))) (inOrder (system (now (board .entry))) (now (order .entry))) (passLimit (now (board .entry)))
+        r (now (times .exit))) ⌝ }
+    ensures like { λ r. ⌜ (inOrderRefusal (now (board .entry))
+        (length (now (times .entry))) (length (now (scratch .entry))) (length (now (table .entry))) (now (order .entry)) ≡ Passed
+        → LikeAnalyse (now (board .entry)) (length (now (times .entry))) (length (now (scratch .entry))) (length (now (table .entry)))
+        (inOrder (system (now (board .entry))) (now (order .entry))) r) ⌝ }
+{
+    let mut n: usize = 0;
+    let mut words = [0u32; 256];
+    let mut sets = [0u64; 256];
+    let answer = order_work::analyse_in_order(
+        board,
+        times,
+        scratch,
+        table.len(),
+        &mut n,
+        &mut words,
+        &mut sets,
+        order,
     );
     table::fill(board, n, &words, &sets, table);
     answer
