@@ -2,7 +2,7 @@
  * Zuzgravel: worst-case response times of the tasks of a multicore controller, as upper bounds: no task takes longer, as long as every
  * core runs the board's tasks as recorded and none of them is released more often than its period.
  *
- * The four calls of the proved library (`rt staticlib capi` writes target/staticlib/libcapi.a). Each call takes every input: it
+ * The five calls of the proved library (`rt staticlib capi` writes target/staticlib/libcapi.a). Each call takes every input: it
  * tests what it is given and refuses with the number and the place of the refusal table (README.md). No call keeps a pointer,
  * allocates, or fails to return.
  *
@@ -15,14 +15,14 @@
  * is 0); a refused call writes to no other buffer.
  *
  *   code                    answer[0]                        answer[1]
- *   ZUZGRAVEL_VALUE    0    the value; of analyse: passes
+ *   ZUZGRAVEL_VALUE    0    the value; of analyse and analyse_in_order: passes
  *   ZUZGRAVEL_LATE     1    the late task, from 1            passes
  *   ZUZGRAVEL_SPENT    2
  *   ZUZGRAVEL_REFUSED  3    the row of the refusal table     the place
  *
- * Stack that a call needs, on x86-64: 52 KiB for zuzgravel_figures and zuzgravel_analyse, 68 KiB for zuzgravel_overhead and
- * zuzgravel_weigh. `harness/stack` measures it; some 3 KiB of each are for the dynamic linker, which may have to bind memset and memcpy,
- * the only functions of C that are called.
+ * Stack that a call needs, on x86-64: 52 KiB for zuzgravel_figures, zuzgravel_analyse and zuzgravel_analyse_in_order, 68 KiB for
+ * zuzgravel_overhead and zuzgravel_weigh. `harness/stack` measures it; some 3 KiB of each are for the dynamic linker, which may have to
+ * bind memset and memcpy, the only functions of C that are called.
  */
 #ifndef ZUZGRAVEL_H
 #define ZUZGRAVEL_H
@@ -45,7 +45,7 @@ extern "C" {
  */
 #define ZUZGRAVEL_RECORD_WORDS 13u
 
-/* Words of scratch that zuzgravel_analyse asks for with n tasks. */
+/* Words of scratch that zuzgravel_analyse and zuzgravel_analyse_in_order ask for with n tasks. */
 #define ZUZGRAVEL_SCRATCH_WORDS(n) ((size_t)(n) * (size_t)(n) + 4u * (size_t)(n))
 
 /*
@@ -78,6 +78,17 @@ uint32_t zuzgravel_weigh(const uint32_t *board, size_t board_words, const uint32
  */
 uint32_t zuzgravel_analyse(const uint32_t *board, size_t board_words, uint32_t *times, size_t times_words, uint32_t *scratch,
                            size_t scratch_words, uint32_t *records, size_t record_words, uint64_t answer[2]);
+
+/*
+ * Analyse in order: as zuzgravel_analyse, by passes that visit the tasks in the order of `order`, a list of the n task numbers, from 1;
+ * each task uses the newest times. By these passes it is spent, late or has times, and leaves the buffers as zuzgravel_analyse does by
+ * its own. The passes needed are never more than by zuzgravel_analyse; where neither is spent, the times, or the late task, are the same.
+ * Refuses as zuzgravel_analyse does, then with row 16: where order_words is not n, whose place is order_words, and at the first number
+ * that is outside 1..n or was named before, whose place is its index, from 0.
+ */
+uint32_t zuzgravel_analyse_in_order(const uint32_t *board, size_t board_words, uint32_t *times, size_t times_words, uint32_t *scratch,
+                                    size_t scratch_words, uint32_t *records, size_t record_words, const uint32_t *order,
+                                    size_t order_words, uint64_t answer[2]);
 
 #ifdef __cplusplus
 }

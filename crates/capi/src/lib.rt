@@ -1,4 +1,4 @@
-// The four calls for C and Rust, on numbers and word slices; include/zuzgravel.h declares them. Each takes every input, returns a code, and
+// The calls for C and Rust, on numbers and word slices; include/zuzgravel.h declares them. Each takes every input, returns a code, and
 // puts the two numbers of its answer into the two words of `answer`, also where it refuses. In C the array is one pointer, with no length.
 use replies::reply::of_answer;
 use replies::reply::of_outcome;
@@ -8,9 +8,11 @@ ghost use mathlib.Core.Path.{_≡_};
 ghost use lib.ListN.{length};
 ghost use Rattle.board.specs.Layout.{passLimit};
 ghost use Rattle.refusals.specs.declared.Verdict.the-variants.{Passed};
-ghost use Rattle.answers.specs.Refusals.{figuresRefusal, analyseRefusal};
-ghost use Rattle.answers.specs.Answers.{system, figuresAnswer, overheadAnswer, weighAnswer, analyseAnswer, timesAfter, ScratchAfter};
-ghost use Rattle.calls.specs.Demand.{Demand3};
+ghost use Rattle.passes.specs.Visits.{inOrder};
+ghost use Rattle.answers.specs.Refusals.{figuresRefusal, analyseRefusal, inOrderRefusal};
+ghost use Rattle.answers.specs.Answers.{system, figuresAnswer, overheadAnswer, weighAnswer, analyseAnswer, inOrderAnswer, timesAfter, ScratchAfter};
+ghost use Rattle.calls.specs.Demand.{Demand3, Demand3By};
+ghost use Rattle.calls.specs.InOrder.{LikeAnalyse};
 ghost use Rattle.replies.specs.Replies.{outcomeCode, outcomeWords, answerCode, answerWords};
 ghost use Rattle.replies.specs.Records.{recordRoom, recordsAfter};
 
@@ -101,6 +103,58 @@ pub extern "C" fn zuzgravel_analyse(
     let mut sets = [0u64; 256];
     let room = records.len() / RECORD_WORDS;
     let found = call_work::analyse(board, times, scratch, room, &mut n, &mut words, &mut sets);
+    fill_words(board, n, &words, &sets, records);
+    of_answer(found, answer)
+}
+
+// Analyse in the order of a list of task numbers: buffers as those of `zuzgravel_analyse`.
+#[no_mangle]
+pub extern "C" fn zuzgravel_analyse_in_order<'a>(
+    board: &'a [u32],
+    times: &mut [u32],
+    scratch: &mut [u32],
+    records: &mut [u32],
+    order: &'a [u32],
+    answer: &mut [u64; 2],
+) -> u32
+    ensures code { λ r. ⌜ r ≡ answerCode (inOrderAnswer (now (board .entry))
+        (length (now (times .entry))) (length (now (scratch .entry))) (recordRoom (now (records .entry))) (now (order .entry))) ⌝ }
+    ensures answer { λ _. ⌜ now (answer .exit) ≡ answerWords (inOrderAnswer (now (board .entry))
+        (length (now (times .entry))) (length (now (scratch .entry))) (recordRoom (now (records .entry))) (now (order .entry))) ⌝ }
+    ensures times { λ _. ⌜ now (times .exit) ≡ timesAfter (now (board .entry)) (inOrderAnswer (now (board .entry))
+        (length (now (times .entry))) (length (now (scratch .entry))) (recordRoom (now (records .entry))) (now (order .entry))) (now (times .entry)) ⌝ }
+    ensures records { λ _. ⌜ now (records .exit) ≡ recordsAfter (now (board .entry)) (inOrderRefusal (now (board .entry))
+        (length (now (times .entry))) (length (now (scratch .entry))) (recordRoom (now (records .entry))) (now (order .entry))) (now (records .entry)) ⌝ }
+    ensures scratch { λ _. ⌜ ScratchAfter (inOrderRefusal (now (board .entry))
+        (length (now (times .entry))) (length (now (scratch .entry))) (recordRoom (now (records .entry))) (now (order .entry)))
+        (now (scratch .entry)) (now (scratch .exit)) ⌝ }
+    ensures demand3 { λ _. ⌜ (inOrderRefusal (now (board .entry))
+        (length (now (times .entry))) (length (now (scratch .entry))) (recordRoom (now (records .entry))) (now (order .entry)) ≡ Passed
+        → Demand3By (system (now (board .entry))) (inOrder (system (now (board .entry))) (now (order .entry))) (passLimit (now (board .entry)))
+        (inOrderAnswer (now (board .entry))
+        (length (now (times .entry))) (length (now (scratch .entry))) (recordRoom (now (records .entry))) (now (order .entry)))
+        (now (times .exit))) ⌝ }
+    ensures like { λ _. ⌜ (inOrderRefusal (now (board .entry))
+        (length (now (times .entry))) (length (now (scratch .entry))) (recordRoom (now (records .entry))) (now (order .entry)) ≡ Passed
+        → LikeAnalyse (now (board .entry)) (length (now (times .entry))) (length (now (scratch .entry))) (recordRoom (now (records .entry)))
+        (inOrder (system (now (board .entry))) (now (order .entry)))
+        (inOrderAnswer (now (board .entry))
+        (length (now (times .entry))) (length (now (scratch .entry))) (recordRoom (now (records .entry))) (now (order .entry)))) ⌝ }
+{
+    let mut n: usize = 0;
+    let mut words = [0u32; 256];
+    let mut sets = [0u64; 256];
+    let room = records.len() / RECORD_WORDS;
+    let found = order_work::analyse_in_order(
+        board,
+        times,
+        scratch,
+        room,
+        &mut n,
+        &mut words,
+        &mut sets,
+        order,
+    );
     fill_words(board, n, &words, &sets, records);
     of_answer(found, answer)
 }
