@@ -64,14 +64,14 @@ fn answer_line(text: &[u8], from: usize, board: &[u32]) -> usize
     line.next
 }
 
-fn answer(words: &[u32], board: &[u32]) {
+fn answer<'a>(words: &'a [u32], board: &'a [u32]) {
     if 0 < words.len() {
         answer_call(words[0], &words[1..], board);
     }
 }
 
 // A call is a file of this crate and an arm here; a line with another number is passed over.
-fn answer_call(call: u32, given: &[u32], board: &[u32]) {
+fn answer_call<'a>(call: u32, given: &'a [u32], board: &'a [u32]) {
     match call {
         1 => verdict::answer(board),
         2 => tables::figures_of_64(board),
@@ -82,6 +82,8 @@ fn answer_call(call: u32, given: &[u32], board: &[u32]) {
         7 => tables::analyse_of_3(board),
         8 => overheads::one(given, board),
         9 => overheads::rows(given, board),
+        10 => analyse::in_order(given, board),
+        11 => tables::in_order_of_3(given, board),
         _ => {}
     }
 }

@@ -1,4 +1,5 @@
-// Calls 2, 6 and 7: `calls::figures` and `calls::analyse` with a lent table, every record of which is marked before.
+// Calls 2, 6, 7 and 11: `calls::figures`, `calls::analyse` and `calls::analyse_in_order` with a lent table, every record of which is marked before.
+use lent::analyse_in_order_small;
 use lent::analyse_small;
 use lent::figures_large;
 use lent::figures_small;
@@ -25,7 +26,20 @@ pub fn analyse_of_3(board: &[u32]) {
     let mut scratch = [0u32; 32];
     let f = marked();
     analyse_small(board, &mut times, &mut scratch, [f; 3]);
+    print_times(&times);
+}
+
+// The same, in the order of a list.
+pub fn in_order_of_3<'a>(order: &'a [u32], board: &'a [u32]) {
+    let mut times = [7u32; 6];
+    let mut scratch = [0u32; 32];
+    let f = marked();
+    analyse_in_order_small(board, &mut times, &mut scratch, [f; 3], order);
+    print_times(&times);
+}
+
+fn print_times(times: &[u32]) {
     io::write_all(STDOUT_FILENO, b"times");
-    print_fields(&times);
+    print_fields(times);
     end_line();
 }

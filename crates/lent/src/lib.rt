@@ -27,6 +27,17 @@ pub fn analyse_small(
     print::answer_small(answer, table);
 }
 
+pub fn analyse_in_order_small<'a>(
+    board: &'a [u32],
+    times: &mut [u32],
+    scratch: &mut [u32],
+    mut table: [Figure; 3],
+    order: &'a [u32],
+) {
+    let answer = calls::analyse_in_order(board, times, scratch, &mut table, order);
+    print::answer_small(answer, table);
+}
+
 // What a record is before a call.
 pub fn marked() -> Figure {
     Figure {
