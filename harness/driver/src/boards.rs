@@ -14,14 +14,6 @@ pub fn words_of(bytes: &[u8]) -> Option<Vec<u32>> {
     Some(bytes.chunks_exact(4).map(|c| u32::from_le_bytes([c[0], c[1], c[2], c[3]])).collect())
 }
 
-/// Document 01's board K1.
-pub fn k1() -> Vec<u32> {
-    vec![
-        2, 2, 2, 3, 0, 3, 1, 5, 0, 0, 0, 0, 100, 0, 0, 0, 0, 0, 0, 0, 1, 100, 100, 1, 0, 2, 60, 60, 1, 0, 2, 1, 0, 1, 2, 131072,
-        268664832, 537165825,
-    ]
-}
-
 /// A random board; the number picks bus, memory and refresh form in turn.
 pub fn random(r: &mut Rng, number: usize) -> Vec<u32> {
     let (bus, memory, refresh) = (number as u32 % 5, number as u32 / 5 % 3, number as u32 / 15 % 3);
