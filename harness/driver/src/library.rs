@@ -1,4 +1,4 @@
-//! The four calls of the static library, on slices. The declarations are those of include/zuzgravel.h.
+//! The five calls of the static library, on slices. The declarations are those of include/zuzgravel.h.
 
 extern "C" {
     fn zuzgravel_figures(
@@ -11,6 +11,10 @@ extern "C" {
     fn zuzgravel_analyse(
         board: *const u32, board_words: usize, times: *mut u32, times_words: usize, scratch: *mut u32, scratch_words: usize,
         records: *mut u32, record_words: usize, answer: *mut u64,
+    ) -> u32;
+    fn zuzgravel_analyse_in_order(
+        board: *const u32, board_words: usize, times: *mut u32, times_words: usize, scratch: *mut u32, scratch_words: usize,
+        records: *mut u32, record_words: usize, order: *const u32, order_words: usize, answer: *mut u64,
     ) -> u32;
 }
 
@@ -64,6 +68,15 @@ pub fn analyse(board: &[u32], times: &mut [u32], scratch: &mut [u32], records: &
         zuzgravel_analyse(
             board.as_ptr(), board.len(), times.as_mut_ptr(), times.len(), scratch.as_mut_ptr(), scratch.len(),
             records.as_mut_ptr(), records.len(), at,
+        )
+    })
+}
+
+pub fn analyse_in_order(board: &[u32], times: &mut [u32], scratch: &mut [u32], records: &mut [u32], order: &[u32]) -> Reply {
+    reply(|at| unsafe {
+        zuzgravel_analyse_in_order(
+            board.as_ptr(), board.len(), times.as_mut_ptr(), times.len(), scratch.as_mut_ptr(), scratch.len(),
+            records.as_mut_ptr(), records.len(), order.as_ptr(), order.len(), at,
         )
     })
 }

@@ -1,30 +1,48 @@
 //! harness_check PROGRAM [SEED [BOARDS]]: the static library and the program `times` against the reference.
-//! All four calls on random, extreme and damaged boards, every lent buffer before and after, guard words around each; the
-//! program on the same boards and on every prefix of good inputs. Ends with the number of differences, and status 1 if there are any.
+//! All five calls on random, extreme and damaged boards, every lent buffer before and after, guard words around each; Analyse in
+//! order beside the library's own Analyse; the program on the same boards and on every prefix of good inputs. Ends with the number
+//! of differences, and status 1 if there are any.
 use driver::boards::*;
 use driver::library::{self, Reply, LATE, RECORD, REFUSED, SPENT, VALUE};
-use oracle::board::{check_board, Refusal, Rules};
+use driver::{orders, RULES};
+use oracle::board::{check_board, Refusal};
 use oracle::generate::*;
 use oracle::literal::{self, Answer, Figure, Model};
-use oracle::{fast, page};
+use oracle::{changes, fast, page};
+use std::collections::BTreeMap;
+use std::fmt::{Debug, Display};
 use std::io::Write;
 use std::process::{Command, Stdio};
 
 const GUARD: usize = 16;
-const RULES: Rules = Rules::BASE;
 
-/// A buffer with guard words around it, all of it random.
+/// A buffer with guard words around it.
 struct Lent {
     all: Vec<u32>,
     len: usize,
 }
 
 impl Lent {
+    /// All of it random.
     fn new(r: &mut Rng, len: usize) -> Lent {
         Lent { all: (0..len + 2 * GUARD).map(|_| r.next() as u32).collect(), len }
     }
+    /// The same, with a length that mostly is enough.
+    fn about(r: &mut Rng, need: usize) -> Lent {
+        let len = length(r, need);
+        Lent::new(r, len)
+    }
+    /// These words within random ones.
+    fn of(r: &mut Rng, words: &[u32]) -> Lent {
+        let mut lent = Lent::new(r, words.len());
+        lent.part().copy_from_slice(words);
+        lent
+    }
     fn part(&mut self) -> &mut [u32] {
         &mut self.all[GUARD..GUARD + self.len]
+    }
+    fn words(&self) -> &[u32] {
+        &self.all[GUARD..GUARD + self.len]
     }
     /// The whole buffer, guards too, as it should be where the first words are these.
     fn with(&self, first: &[u32]) -> Vec<u32> {
@@ -34,16 +52,21 @@ impl Lent {
     }
 }
 
+#[derive(Default)]
 struct Tally {
     boards: usize,
     calls: usize,
     pages: usize,
     differences: usize,
-    answers: std::collections::BTreeMap<String, usize>,
+    /// How often each call has had each kind of answer.
+    answers: BTreeMap<&'static str, BTreeMap<String, usize>>,
+    /// Boards on which Analyse and an order have an answer with passes, and those of them on which the order needs fewer.
+    settled_twice: usize,
+    fewer_passes: usize,
 }
 
 impl Tally {
-    fn same<T: PartialEq + std::fmt::Debug>(&mut self, what: &str, board: &[u32], found: T, wanted: T) {
+    fn same<T: PartialEq + Debug>(&mut self, what: impl Display, board: &[u32], found: T, wanted: T) {
         if found != wanted {
             self.differences += 1;
             if self.differences <= 5 {
@@ -73,6 +96,15 @@ fn answered(a: Answer) -> Reply {
     }
 }
 
+fn kind(a: Answer) -> String {
+    match a {
+        Answer::Times { .. } => "ok".to_string(),
+        Answer::Late { .. } => "late".to_string(),
+        Answer::Spent => "spent".to_string(),
+        Answer::Refused(e) => format!("bad {}", e.no),
+    }
+}
+
 fn record(f: &Figure) -> Vec<u32> {
     let mut v = vec![f.core, f.period, f.deadline, f.pd, f.md];
     for w in f.ecb {
@@ -91,56 +123,119 @@ fn length(r: &mut Rng, need: usize) -> usize {
     }
 }
 
+/// Records for some tasks, mostly n or more, with words to spare.
+fn some_records(r: &mut Rng, n: usize) -> Lent {
+    let words = length(r, n) * RECORD + r.range(0, RECORD as u32 - 1) as usize;
+    Lent::new(r, words)
+}
+
 /// Small enough for the reference that follows the text word for word.
 fn small(w: &[u32]) -> bool {
     w.len() < 900
 }
 
-fn try_analyse(t: &mut Tally, r: &mut Rng, w: &[u32], n: usize) {
-    let mut times = Lent::new(r, 0);
-    let mut scratch = Lent::new(r, 0);
-    let mut records = Lent::new(r, 0);
-    times.len = length(r, n);
-    scratch.len = length(r, n * n + 4 * n);
-    records.len = length(r, n) * RECORD + r.range(0, RECORD as u32 - 1) as usize;
-    for b in [&mut times, &mut scratch, &mut records] {
-        *b = Lent::new(r, b.len);
+/// The two calls that settle a board's times.
+#[derive(Clone, Copy, Debug)]
+enum Settling<'a> {
+    Analyse,
+    AnalyseInOrder(&'a [u32]),
+}
+
+impl Settling<'_> {
+    fn name(self) -> &'static str {
+        match self {
+            Settling::Analyse => "analyse",
+            Settling::AnalyseInOrder(_) => "analyse in order",
+        }
     }
-    let mut table = vec![Figure::default(); records.len / RECORD];
-    let mut settled = times.part().to_vec();
-    let mut room = vec![0u32; scratch.len];
-    let wanted = if small(w) && w.get(12).is_some_and(|&l| l < 3000) {
-        literal::analyse(w, &mut settled, &mut room, &mut table, RULES)
-    } else {
-        fast::analyse(w, &mut settled, &mut room, &mut table, RULES)
-    };
-    let told = matches!(wanted, Answer::Refused(_));
-    let filled: Vec<u32> = if told { vec![] } else { table[..n].iter().flat_map(record).collect() };
-    let (times_after, records_after, scratch_before) = (times.with(&settled), records.with(&filled), scratch.all.clone());
-    let found = library::analyse(w, times.part(), scratch.part(), records.part());
-    t.calls += 1;
-    let kind = match wanted {
-        Answer::Times { .. } => "ok".to_string(),
-        Answer::Late { .. } => "late".to_string(),
-        Answer::Spent => "spent".to_string(),
-        Answer::Refused(e) => format!("bad {}", e.no),
-    };
-    *t.answers.entry(kind).or_default() += 1;
-    t.same("analyse", w, found, answered(wanted));
-    t.same("times after analyse", w, &times.all, &times_after);
-    t.same("records after analyse", w, &records.all, &records_after);
-    if told {
-        t.same("scratch after a refusal", w, &scratch.all, &scratch_before);
-    } else {
-        let end = GUARD + scratch.len;
-        t.same("words around the scratch", w, (&scratch.all[..GUARD], &scratch.all[end..]), (&scratch_before[..GUARD], &scratch_before[end..]));
+    fn of_reference(self, w: &[u32], times: &mut [u32], scratch: &mut [u32], table: &mut [Figure]) -> Answer {
+        let literally = small(w) && w.get(12).is_some_and(|&limit| limit < 3000);
+        match self {
+            Settling::Analyse if literally => literal::analyse(w, times, scratch, table, RULES),
+            Settling::Analyse => fast::analyse(w, times, scratch, table, RULES),
+            Settling::AnalyseInOrder(list) if literally => changes::analyse_in_order(w, times, scratch, table, list, RULES),
+            Settling::AnalyseInOrder(list) => fast::analyse_in_order(w, times, scratch, table, list, RULES),
+        }
+    }
+    fn of_product(self, w: &[u32], times: &mut [u32], scratch: &mut [u32], records: &mut [u32]) -> Reply {
+        match self {
+            Settling::Analyse => library::analyse(w, times, scratch, records),
+            Settling::AnalyseInOrder(list) => library::analyse_in_order(w, times, scratch, records, list),
+        }
     }
 }
 
+/// A call with buffers that are drawn: its answer, and every word of what it is lent.
+fn try_settling(t: &mut Tally, r: &mut Rng, w: &[u32], n: usize, call: Settling) {
+    let mut times = Lent::about(r, n);
+    let mut scratch = Lent::about(r, n * n + 4 * n);
+    let mut records = some_records(r, n);
+    let mut table = vec![Figure::default(); records.len / RECORD];
+    let mut settled = times.words().to_vec();
+    let wanted = call.of_reference(w, &mut settled, &mut vec![0; scratch.len], &mut table);
+    let told = matches!(wanted, Answer::Refused(_));
+    let filled: Vec<u32> = if told { vec![] } else { table[..n].iter().flat_map(record).collect() };
+    let (times_after, records_after, scratch_before) = (times.with(&settled), records.with(&filled), scratch.all.clone());
+    let found = call.of_product(w, times.part(), scratch.part(), records.part());
+    t.calls += 1;
+    *t.answers.entry(call.name()).or_default().entry(kind(wanted)).or_default() += 1;
+    t.same(format_args!("{call:?}"), w, found, answered(wanted));
+    t.same(format_args!("times after {call:?}"), w, &times.all, &times_after);
+    t.same(format_args!("records after {call:?}"), w, &records.all, &records_after);
+    if told {
+        t.same(format_args!("scratch after a refusal of {call:?}"), w, &scratch.all, &scratch_before);
+    } else {
+        let end = GUARD + scratch.len;
+        let (found, wanted) = ((&scratch.all[..GUARD], &scratch.all[end..]), (&scratch_before[..GUARD], &scratch_before[end..]));
+        t.same(format_args!("words around the scratch of {call:?}"), w, found, wanted);
+    }
+}
+
+/// Analyse in the order of a list, which stays as it was.
+fn try_in_order(t: &mut Tally, r: &mut Rng, w: &[u32], n: usize, list: &[u32]) {
+    let order = Lent::of(r, list);
+    let before = order.all.clone();
+    try_settling(t, r, w, n, Settling::AnalyseInOrder(order.words()));
+    t.same(format_args!("the list after analyse in order {list:?}"), w, &order.all, &before);
+}
+
+/// What the library answers with room for 64 tasks, and the times that it leaves.
+fn with_room(call: Settling, w: &[u32]) -> (Reply, Vec<u32>) {
+    let mut times = vec![0; 64];
+    let reply = call.of_product(w, &mut times, &mut vec![0; 4352], &mut vec![0; 64 * RECORD]);
+    (reply, times)
+}
+
+/// A reply with 0 for its passes, and these; spent and refused have none.
+fn passes_apart(reply: Reply) -> (Reply, Option<u64>) {
+    let [first, second] = reply.answer;
+    match reply.code {
+        VALUE => (Reply { answer: [0, second], ..reply }, Some(first)),
+        LATE => (Reply { answer: [first, 0], ..reply }, Some(second)),
+        _ => (reply, None),
+    }
+}
+
+/// An order of the tasks beside the library's own Analyse: unless this is spent, the answers are the same but for the passes, of which
+/// the order needs no more, and so are the times.
+fn try_beside_analyse(t: &mut Tally, w: &[u32], order: &[u32]) {
+    let (analysed, times) = with_room(Settling::Analyse, w);
+    let (in_order, times_in_order) = with_room(Settling::AnalyseInOrder(order), w);
+    t.calls += 2;
+    if analysed.code == SPENT {
+        return;
+    }
+    let (wanted, most) = passes_apart(analysed);
+    let (found, passes) = passes_apart(in_order);
+    t.same(format_args!("the answer in order {order:?} beside analyse"), w, (found, times_in_order), (wanted, times));
+    t.same(format_args!("the most passes, in order {order:?} or of analyse,"), w, passes.max(most), most);
+    t.settled_twice += (passes.is_some() && most.is_some()) as usize;
+    t.fewer_passes += (passes.is_some() && passes < most) as usize;
+}
+
 fn try_figures(t: &mut Tally, r: &mut Rng, w: &[u32], n: usize) {
-    let words = length(r, n) * RECORD + r.range(0, RECORD as u32 - 1) as usize;
-    let mut records = Lent::new(r, words);
-    let mut table = vec![Figure::default(); words / RECORD];
+    let mut records = some_records(r, n);
+    let mut table = vec![Figure::default(); records.len / RECORD];
     let wanted = literal::figures(w, &mut table, RULES);
     let filled: Vec<u32> = if wanted.is_err() { vec![] } else { table[..n].iter().flat_map(record).collect() };
     let after = records.with(&filled);
@@ -216,7 +311,12 @@ fn try_board(t: &mut Tally, r: &mut Rng, program: &str, w: &[u32]) {
     t.boards += 1;
     // the number of tasks that lengths and task numbers go by; a damaged board may claim any
     let n = w.get(1).copied().unwrap_or(0).min(64) as usize;
-    try_analyse(t, r, w, n);
+    try_settling(t, r, w, n, Settling::Analyse);
+    let right = orders::right(r, w, n);
+    try_in_order(t, r, w, n, &right);
+    try_beside_analyse(t, w, &right);
+    let any = orders::any(r, w, n);
+    try_in_order(t, r, w, n, &any);
     try_figures(t, r, w, n);
     try_overhead_and_weigh(t, r, w, n);
     try_page(t, program, &bytes_of(w));
@@ -236,7 +336,7 @@ fn main() {
         std::process::exit(2)
     };
     let (seed, boards) = (number(2, 1), number(3, 20_000) as usize);
-    let mut t = Tally { boards: 0, calls: 0, pages: 0, differences: 0, answers: Default::default() };
+    let mut t = Tally::default();
     let mut r = Rng(seed);
     for k in 0..boards {
         let w = random(&mut r, k);
@@ -284,6 +384,10 @@ fn main() {
             try_page(&mut t, &program, &input[..end]);
         }
     }
-    println!("{} boards, {} calls, {} pages, {} differences; answers of analyse {:?}", t.boards, t.calls, t.pages, t.differences, t.answers);
+    for (call, answers) in &t.answers {
+        println!("answers of {call}: {answers:?}");
+    }
+    println!("in order beside analyse: {} boards not spent, {} of them with fewer passes", t.settled_twice, t.fewer_passes);
+    println!("{} boards, {} calls, {} pages, {} differences", t.boards, t.calls, t.pages, t.differences);
     std::process::exit((t.differences != 0) as i32);
 }
