@@ -1,5 +1,5 @@
 /*
- * stack BOARD..: runs the four calls of the library on every board, each on a stack that is painted before the call, and prints the most bytes
+ * stack BOARD..: runs the five calls of the library on every board, each on a stack that is painted before the call, and prints the most bytes
  * of stack that each of them has touched, with its return address and the arguments that are passed in memory.
  */
 #include <stdio.h>
@@ -16,6 +16,8 @@ static size_t words;
 static uint32_t times[TASKS];
 static uint32_t scratch[ZUZGRAVEL_SCRATCH_WORDS(TASKS)];
 static uint32_t records[TASKS * ZUZGRAVEL_RECORD_WORDS];
+static uint32_t order[TASKS]; /* the tasks ascending */
+static size_t order_words;
 static uint64_t answer[2];
 
 static unsigned char stack[STACK] __attribute__((aligned(16)));
@@ -47,6 +49,30 @@ static void analyse(void)
                       answer);
 }
 
+static void analyse_in_order(void)
+{
+    frame = __builtin_frame_address(0);
+    zuzgravel_analyse_in_order(board, words, times, TASKS, scratch, ZUZGRAVEL_SCRATCH_WORDS(TASKS), records,
+                               TASKS * ZUZGRAVEL_RECORD_WORDS, order, order_words, answer);
+}
+
+/* The board of a file, and an order of the tasks that it claims to have. */
+static int read_board(const char *path)
+{
+    FILE *file = fopen(path, "rb");
+    if (!file) {
+        perror(path);
+        return 0;
+    }
+    words = fread(board, 4, 16384, file);
+    fclose(file);
+    order_words = words < 2 ? 0 : board[1] < TASKS ? board[1] : TASKS;
+    for (uint32_t k = 0; k < TASKS; k++) {
+        order[k] = k + 1;
+    }
+    return 1;
+}
+
 /* The bytes of stack that the call touches, of those that are not this paint. */
 static size_t touched(void (*call)(void), unsigned char paint)
 {
@@ -67,26 +93,23 @@ static size_t touched(void (*call)(void), unsigned char paint)
 
 int main(int argc, char **argv)
 {
-    static void (*const calls[])(void) = {figures, overhead, weigh, analyse};
-    static const char *const names[] = {"figures", "overhead", "weigh", "analyse"};
+    enum { CALLS = 5 };
+    static void (*const calls[CALLS])(void) = {figures, overhead, weigh, analyse, analyse_in_order};
+    static const char *const names[CALLS] = {"figures", "overhead", "weigh", "analyse", "analyse_in_order"};
     static const unsigned char paints[] = {0xa5, 0x5a};
-    size_t most[4] = {0};
+    size_t most[CALLS] = {0};
     for (int k = 1; k < argc; k++) {
-        FILE *file = fopen(argv[k], "rb");
-        if (!file) {
-            perror(argv[k]);
+        if (!read_board(argv[k])) {
             return 2;
         }
-        words = fread(board, 4, 16384, file);
-        fclose(file);
-        for (int call = 0; call < 4; call++) {
+        for (int call = 0; call < CALLS; call++) {
             for (int paint = 0; paint < 2; paint++) {
                 size_t bytes = touched(calls[call], paints[paint]);
                 most[call] = bytes > most[call] ? bytes : most[call];
             }
         }
     }
-    for (int call = 0; call < 4; call++) {
+    for (int call = 0; call < CALLS; call++) {
         printf("zuzgravel_%s: %zu bytes of stack\n", names[call], most[call]);
     }
     return 0;

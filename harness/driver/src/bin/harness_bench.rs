@@ -1,14 +1,14 @@
-//! harness_bench [ROUNDS]: the static library beside the reference, in one run: `plain with tests` (plain 64-bit arithmetic) and `fast` (tuned).
+//! harness_bench [ROUNDS]: the static library beside the reference, in one run: `plain with tests` (plain 64-bit arithmetic) and `fast` (tuned);
+//! Analyse in order also beside the library's own Analyse.
 //! Each line has the product's time, then each other's with the ratio; best of the rounds, taken in turn, buffers not cleared in between.
 use driver::library::{self, RECORD};
-use oracle::board::{check_board, Rules};
+use driver::{orders, RULES};
+use oracle::board::check_board;
 use oracle::generate::*;
 use oracle::literal::{Answer, Figure};
 use oracle::{fast, plain};
 use std::hint::black_box;
 use std::time::Instant;
-
-const RULES: Rules = Rules::BASE;
 
 struct Buffers {
     times: Vec<u32>,
@@ -29,6 +29,15 @@ impl Buffers {
     }
     fn fast(&mut self, w: &[u32]) -> Answer {
         fast::analyse(black_box(w), &mut self.times, &mut self.scratch, &mut self.table, RULES)
+    }
+    fn product_in_order(&mut self, w: &[u32], order: &[u32]) -> library::Reply {
+        library::analyse_in_order(black_box(w), &mut self.times, &mut self.scratch, &mut self.records, order)
+    }
+    fn plain_in_order(&mut self, w: &[u32], order: &[u32]) -> Answer {
+        plain::analyse_in_order_tested(black_box(w), &mut self.times, &mut self.scratch, &mut self.table, order, RULES)
+    }
+    fn fast_in_order(&mut self, w: &[u32], order: &[u32]) -> Answer {
+        fast::analyse_in_order(black_box(w), &mut self.times, &mut self.scratch, &mut self.table, order, RULES)
     }
 }
 
@@ -56,6 +65,22 @@ fn analyses(rounds: usize, w: &[u32]) -> [f64; 3] {
     race(rounds, [&mut || keep(x.product(w)), &mut || keep(y.plain(w)), &mut || keep(z.fast(w))])
 }
 
+/// Microseconds of a whole Analyse in order: the product, its own Analyse, `plain with tests` and `fast` in that order. Each run of the product
+/// comes after one of the reference, so that neither finds the figures of the board just made by the same code.
+fn analyses_in_order(rounds: usize, w: &[u32], order: &[u32]) -> [f64; 4] {
+    let (mut x, mut y, mut own, mut z) = (Buffers::new(), Buffers::new(), Buffers::new(), Buffers::new());
+    let [product, plain, analyse, fast] = race(
+        rounds,
+        [
+            &mut || keep(x.product_in_order(w, order)),
+            &mut || keep(y.plain_in_order(w, order)),
+            &mut || keep(own.product(w)),
+            &mut || keep(z.fast_in_order(w, order)),
+        ],
+    );
+    [product, analyse, plain, fast]
+}
+
 fn line(what: &str, times: &[f64]) -> f64 {
     print!("{what:54} {:12.2} us", times[0]);
     for other in &times[1..] {
@@ -72,17 +97,26 @@ fn limited(w: &[u32], limit: u32) -> Vec<u32> {
     v
 }
 
-/// Time of one pass: the difference of two runs with different limits, both spent.
-fn per_pass(rounds: usize, w: &[u32], few: u32, many: u32) -> [f64; 3] {
-    let (short, long) = (analyses(rounds, &limited(w, few)), analyses(rounds, &limited(w, many)));
+/// Times of one pass: the differences of two runs with different limits, all spent.
+fn per_pass<const N: usize>(w: &[u32], few: u32, many: u32, whole: impl Fn(&[u32]) -> [f64; N]) -> [f64; N] {
+    let (short, long) = (whole(&limited(w, few)), whole(&limited(w, many)));
     std::array::from_fn(|k| (long[k] - short[k]) / (many - few) as f64)
 }
 
-fn passes(w: &[u32]) -> u64 {
-    match fast::analyse(w, &mut [0; 64], &mut vec![0; 4352], &mut vec![Figure::default(); 64], RULES) {
+/// The passes of an answer on a board; of a spent one, its limit.
+fn passes_of(answer: Answer, w: &[u32]) -> u64 {
+    match answer {
         Answer::Times { passes } | Answer::Late { passes, .. } => passes,
         _ => w[12] as u64,
     }
+}
+
+fn passes(w: &[u32]) -> u64 {
+    passes_of(Buffers::new().fast(w), w)
+}
+
+fn passes_in_order(w: &[u32], order: &[u32]) -> u64 {
+    passes_of(Buffers::new().fast_in_order(w, order), w)
 }
 
 fn whole(rounds: usize, what: &str, w: &[u32]) -> f64 {
@@ -109,6 +143,30 @@ fn prepare(rounds: usize, what: &str, w: &[u32]) -> f64 {
 fn alone(rounds: usize, w: &[u32]) -> f64 {
     let mut x = Buffers::new();
     race(rounds, [&mut || keep(x.product(w))])[0]
+}
+
+/// Passes in order, one and all, beside the product's own Analyse and beside the reference.
+fn in_order(rounds: usize) {
+    println!("passes in order, one pass of 64 tasks on 8 cores core by core: the product, its Analyse, `plain with tests`, `fast`");
+    for bus in 0..5 {
+        let w = climbing_board(64, 8, 20_000, bus, 1_000_000);
+        let order = orders::core_by_core(&w, 64);
+        line(&format!("  bus {bus}, many short times"), &per_pass(&w, 500, 2_500, |w| analyses_in_order(rounds.min(9), w, &order)));
+        let w = largest_edge(77, 2, bus, 8, 0);
+        let order = orders::core_by_core(&w, 64);
+        let most = passes_in_order(&w, &order).saturating_sub(1).max(4) as u32;
+        line(&format!("  bus {bus}, largest board"), &per_pass(&w, 2, most, |w| analyses_in_order(rounds, w, &order)));
+    }
+    println!("passes in order, whole Analyse core by core (passes of Analyse; core by core, ascending, descending): the same four");
+    for bus in 0..5 {
+        for memory in 0..3 {
+            let w = largest_edge(77, memory, bus, 8, 0);
+            let order = orders::core_by_core(&w, 64);
+            let [cores, up, down] = [&order, &orders::ascending(64), &orders::descending(64)].map(|order| passes_in_order(&w, order));
+            let what = format!("  largest, bus {bus}, memory {memory}, passes {}; {cores}, {up}, {down}", passes(&w));
+            line(&what, &analyses_in_order(rounds, &w, &order));
+        }
+    }
 }
 
 fn main() {
@@ -142,10 +200,10 @@ fn main() {
     println!("one pass of 64 tasks on 8 cores: the product, `plain with tests`, `fast`");
     for bus in 0..5 {
         let w = climbing_board(64, 8, 20_000, bus, 1_000_000);
-        line(&format!("  bus {bus}, many short times"), &per_pass(rounds.min(9), &w, 500, 2_500));
+        line(&format!("  bus {bus}, many short times"), &per_pass(&w, 500, 2_500, |w| analyses(rounds.min(9), w)));
         let w = largest_edge(77, 2, bus, 8, 0);
         let most = passes(&w).saturating_sub(1).max(4) as u32;
-        line(&format!("  bus {bus}, largest board"), &per_pass(rounds, &w, 2, most));
+        line(&format!("  bus {bus}, largest board"), &per_pass(&w, 2, most, |w| analyses(rounds, w)));
     }
     println!("whole Analyse: the product, `plain with tests`, `fast`");
     for bus in 0..5 {
@@ -156,10 +214,11 @@ fn main() {
     whole(3, "  two tasks, long times", &long_times_board(10_000, 26_000));
     whole(3, "  64 tasks on 8 cores, climbing", &climbing_board(64, 8, 20_000, 2, 1_000_000));
     println!("growth of the product (microseconds): twice the tasks, twice the instructions, twice the passes");
-    let tasks = [16, 32, 64].map(|n| per_pass(rounds.min(9), &climbing_board(n, 8, 20_000, 2, 1_000_000), 500, 2_500)[0]);
+    let tasks = [16, 32, 64].map(|n| per_pass(&climbing_board(n, 8, 20_000, 2, 1_000_000), 500, 2_500, |w| analyses(rounds.min(9), w))[0]);
     println!("  a pass at n = 16, 32, 64: {:.2} {:.2} {:.2}", tasks[0], tasks[1], tasks[2]);
     let traces = [2, 4, 8].map(|n| alone(rounds, &limited(&trace_heavy_board(5, n, 1, 2, 0, 100), 1)));
     println!("  figures and overheads at g = 2,048, 4,096, 8,144: {:.1} {:.1} {:.1}", traces[0], traces[1], traces[2]);
     let climbs = [5_000, 10_000, 20_000].map(|k| alone(3, &limited(&climbing_board(64, 8, 100_000, 2, 1_000_000), k)));
     println!("  whole Analyse of 5,000, 10,000, 20,000 passes: {:.0} {:.0} {:.0}", climbs[0], climbs[1], climbs[2]);
+    in_order(rounds);
 }
