@@ -1,4 +1,4 @@
--- K1 to K11, the worked examples of document 01, as one theorem about the definitions that the calls' contracts cite, by computation.
+-- K1 to K11, the worked examples of document 01, and K1 in a chosen order, as one theorem about the definitions that the calls' contracts cite, by computation.
 -- Assumes nothing.
 use Prim.Native.Nat.{ℕ, _/_, _%_}
 use mathlib.Core.List.{List, [], _∷_}
@@ -16,14 +16,15 @@ use Rattle.figures.specs.Overhead.{evictedBy, reloads, γ}
 use Rattle.sums.specs.Sums.{memoryDemand, ownAccesses, carryIn, coreAccesses, lowerAccesses, interference, busAccesses, refreshes, higherWork, taskSum}
 use Rattle.sums.specs.Cases.{K1, K2, K3, K4, K5, K6, K7, K8}
 use Rattle.passes.specs.Passes.{pass, after, unchanged, changes, passesBy, settledBy, firstLate}
-use Rattle.answers.specs.Refusals.{figuresRefusal, overheadRefusal, analyseRefusal}
-use Rattle.answers.specs.Answers.{figuresAnswer, overheadAnswer, settledAnswer, analyseAnswer, timesLeft, timesAfter}
+use Rattle.passes.specs.Visits.{inTurn}
+use Rattle.answers.specs.Refusals.{figuresRefusal, overheadRefusal, analyseRefusal, inOrderRefusal}
+use Rattle.answers.specs.Answers.{figuresAnswer, overheadAnswer, settledAnswer, analyseAnswer, inOrderAnswer, timesLeft, timesAfter}
 use Rattle.input.specs.Input.{wordsIn, inputRefusal}
 use Rattle.text.specs.Text.{digitsOf, decimal, line}
 use Rattle.answer_page.specs.AnswerPage.{answerPage}
 use Rattle.page.specs.Page.{boardPage, pageOf}
 use Rattle.answers.specs.declared.Answer.{Answer}
-use Rattle.answers.specs.declared.Answer.the-variants.{Times, Late, Spent}
+use Rattle.answers.specs.declared.Answer.the-variants.{Times, Late, Spent, Refused}
 use Rattle.answers.specs.declared.Outcome.the-variants.{Value}
 
 -- ---- K1 to K8: boards without a cache, which `sums` has
@@ -39,6 +40,13 @@ answer b = analyseAnswer b (length lent) 12 2
 -- the answer is times, with these passes, and the times buffer begins with these two times
 abbrev Settles : List ℕ → ℕ → ℕ → ℕ → Type 0
 Settles b time1 time2 passes = (answer b ≡ Times passes) × (timesAfter b (answer b) lent ≡ time1 ∷ time2 ∷ 7 ∷ [])
+
+-- the answer of Analyse in the order of a list of task numbers; times of K1, with these passes
+abbrev inOrder : List ℕ → List ℕ → Answer
+inOrder b order = inOrderAnswer b (length lent) 12 2 order
+
+abbrev SettlesIn : List ℕ → List ℕ → ℕ → Type 0
+SettlesIn b order passes = (inOrder b order ≡ Times passes) × (timesAfter b (inOrder b order) lent ≡ 35 ∷ 29 ∷ 7 ∷ [])
 
 -- the bytes of the words, the lowest first
 abbrev bytesOf : List ℕ → List ℕ
@@ -121,7 +129,16 @@ pub examples :
     × (usefulSets K10 ≡ noSet ∷ noSet ∷ noSet ∷ [])
     × (overheadAnswer (K11 4) 2 1 ≡ Value 1)
     × (overheadAnswer (K11 5) 2 1 ≡ Value 0)
-unfolding ceilDiv sumTo maxTo countTo anyTo firstFrom tabulate fillTo sameList wordOf wordsOf firstTrace firstInstruction headerRanges headerOk taskRanges taskOk workOk refuseUnless firstBad refuseFirst refusalOf firstIn lastIn someIn hits missCount traceOf loads tracePD busLoads traceMD evicts useful usefulAt mostUseful taskPD taskMD evicting figureOf evictedBy reloads γ memoryDemand ownAccesses carryIn coreAccesses lowerAccesses interference busAccesses refreshes higherWork taskSum pass after unchanged changes passesBy settledBy firstLate figuresRefusal overheadRefusal analyseRefusal figuresAnswer overheadAnswer settledAnswer analyseAnswer timesLeft wordsIn inputRefusal digitsOf decimal line joinTo answerPage boardPage pageOf
+    × SettlesIn K1 (1 ∷ 2 ∷ []) 3
+    × SettlesIn K1 (2 ∷ 1 ∷ []) 4
+    × SettlesIn (K5 3) (1 ∷ 2 ∷ []) 3
+    × (inOrder (K5 3) (2 ∷ 1 ∷ []) ≡ Spent)
+    × (inOrder K4 (1 ∷ 2 ∷ []) ≡ Late 1 3)
+    × (inOrder K1 (3 ∷ []) ≡ Refused 16 1)
+    × (inOrder K1 (2 ∷ 3 ∷ []) ≡ Refused 16 1)
+    × (inOrder K1 (0 ∷ 0 ∷ []) ≡ Refused 16 0)
+    × (inOrder K1 (2 ∷ 2 ∷ []) ≡ Refused 16 1)
+unfolding ceilDiv sumTo maxTo countTo anyTo firstFrom tabulate fillTo sameList wordOf wordsOf firstTrace firstInstruction headerRanges headerOk taskRanges taskOk workOk refuseUnless firstBad refuseFirst refusalOf firstIn lastIn someIn hits missCount traceOf loads tracePD busLoads traceMD evicts useful usefulAt mostUseful taskPD taskMD evicting figureOf evictedBy reloads γ memoryDemand ownAccesses carryIn coreAccesses lowerAccesses interference busAccesses refreshes higherWork taskSum pass inTurn after unchanged changes passesBy settledBy firstLate figuresRefusal overheadRefusal analyseRefusal inOrderRefusal figuresAnswer overheadAnswer settledAnswer analyseAnswer inOrderAnswer timesLeft wordsIn inputRefusal digitsOf decimal line joinTo answerPage boardPage pageOf
 examples = (
   (refl, refl),
   refl,
@@ -138,6 +155,15 @@ examples = (
   (refl, refl, refl),
   refl,
   (refl, refl, refl),
+  refl,
+  refl,
+  refl,
+  (refl, refl),
+  (refl, refl),
+  (refl, refl),
+  refl,
+  refl,
+  refl,
   refl,
   refl,
   refl,
