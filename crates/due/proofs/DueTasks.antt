@@ -1,7 +1,7 @@
 -- The tasks that are due: the words of the cores, and what a visit leaves.
 -- Assumes nothing.
 use Prim.Native.Nat.{ℕ, _+_, _≤_, _<_}
-use mathlib.Core.Bool.{Bool, true, false, not, _&&_, _||_, false≢true}
+use mathlib.Core.Bool.{Bool, true, false, not, _&&_, _||_, or-false, false≢true}
 use mathlib.Core.List.{List}
 use mathlib.Core.Logic.{⊎-elim}
 use mathlib.Core.Path.{_≡_, refl, sym, ap, _∙_}
@@ -10,7 +10,7 @@ use native.Mathlib.Omega.{arith}
 use lib.Dec.{eqb, ltb}
 use lib.ListN.{getD, set, length-set, replicate, getD-replicate}
 use lib.Seq.{getD-set-same, getD-set-other}
-use borrow.Author.Tests.{eq-eqb, ne-eqb, eqb-true, lt-ltb, le-ltb, not-false}
+use borrow.Author.Tests.{eq-eqb, ne-eqb, eqb-true, eqb-false, lt-ltb, le-ltb, not-false}
 use Rattle.folds.proofs.Numbers.{le-or-lt, and-both}
 use Rattle.board.specs.Layout.{tasks, bus, core}
 use Rattle.bitset.specs.Bits.{bit, wordOf}
@@ -19,33 +19,29 @@ use Rattle.sums.specs.Chains.{isOn}
 use Rattle.sums.specs.Limits.{mostCores}
 use Rattle.due.specs.DueTasks.{OnCores, Joined}
 
--- ---- truth tables
-
-pub or-false : (s t : Bool) → (s || t) ≡ false → (s ≡ false) × (t ≡ false)
-or-false false t e = (refl, e)
-or-false true t e = absurd (false≢true (sym e))
-
-eqb-apart : (j i : ℕ) → eqb j i ≡ false → j ≡ i → ⊥
-eqb-apart j i e same = false≢true (sym e ∙ eq-eqb j i same)
+-- two tests of which neither holds
+pub neither : (s t : Bool) → (s || t) ≡ false → (s ≡ false) × (t ≡ false)
+neither false t e = (refl, e)
+neither true t e = absurd (false≢true (sym e))
 
 -- ---- task i changed
 
 module _ (b : List ℕ) (due i : ℕ) {own : ℕ} (mine : own ≡ wordOf (λ t. eqb t i || bit due t) 64) (few : tasks b ≤ 64) where
   own-false : (j : ℕ) → j < tasks b → bit own j ≡ false → (eqb j i ≡ false) × (bit due j ≡ false)
-  own-false j h e = or-false (eqb j i) (bit due j) (sym (bit-wordOf 64 (λ t. eqb t i || bit due t) j (omega arith)) ∙ ap (λ (w : ℕ). bit w j) (sym mine) ∙ e)
+  own-false j h e = neither (eqb j i) (bit due j) (sym (bit-wordOf 64 (λ t. eqb t i || bit due t) j (omega arith)) ∙ ap (λ (w : ℕ). bit w j) (sym mine) ∙ e)
 
   -- on TDMA
   pub joined-own : bus b ≡ 4 → Joined b due i own
-  joined-own tdma j h e = let both = own-false j h e in (both .1, eqb-apart j i (both .0), λ other. absurd (omega arith))
+  joined-own tdma j h e = let both = own-false j h e in (both .1, eqb-false j i (both .0), λ other. absurd (omega arith))
 
   -- on another bus
   pub joined-off : {on r : ℕ} → on ≡ wordOf (λ k. ltb k (tasks b) && isOn b (core b i) k) 64 → r ≡ wordOf (λ t. bit own t || not (bit on t)) 64 → Joined b due i r
   joined-off {on} {r} cores made j h e =
       let test : ℕ → Bool = λ k. ltb k (tasks b) && isOn b (core b i) k in
-      let split = or-false (bit own j) (not (bit on j)) (sym (bit-wordOf 64 (λ t. bit own t || not (bit on t)) j (omega arith)) ∙ ap (λ (w : ℕ). bit w j) (sym made) ∙ e) in
+      let split = neither (bit own j) (not (bit on j)) (sym (bit-wordOf 64 (λ t. bit own t || not (bit on t)) j (omega arith)) ∙ ap (λ (w : ℕ). bit w j) (sym made) ∙ e) in
       let both = own-false j h (split .0) in
       let same = sym (bit-wordOf 64 test j (omega arith)) ∙ ap (λ (w : ℕ). bit w j) (sym cores) ∙ not-false (bit on j) (split .1) in
-      (both .1, eqb-apart j i (both .0), λ _. sym (eqb-true (core b j) (core b i) (and-both (ltb j (tasks b)) (isOn b (core b i) j) same .1)))
+      (both .1, eqb-false j i (both .0), λ _. sym (eqb-true (core b j) (core b i) (and-both (ltb j (tasks b)) (isOn b (core b i) j) same .1)))
 
 -- ---- the words of the cores
 
@@ -53,12 +49,8 @@ module _ (b : List ℕ) (due i : ℕ) {own : ℕ} (mine : own ≡ wordOf (λ t. 
 test-more : (s : ℕ → Bool) (k t : ℕ) → ((eqb t k && s k) || (ltb t k && s t)) ≡ (ltb t (k + 1) && s t)
 test-more s k t = elim (ℕ-discrete t k) [ yes same ↦ here same | no other ↦ ⊎-elim (high other) (low other) (le-or-lt k t) ]
   where
-    or-none : (v : Bool) → (v || false) ≡ v
-    or-none true = refl
-    or-none false = refl
-
     here : t ≡ k → ((eqb t k && s k) || (ltb t k && s t)) ≡ (ltb t (k + 1) && s t)
-    here e = rw (e, eq-eqb k k refl, le-ltb k k (omega arith), lt-ltb k (k + 1) (omega arith)) (or-none (s k))
+    here e = rw (e, eq-eqb k k refl, le-ltb k k (omega arith), lt-ltb k (k + 1) (omega arith)) (or-false (s k))
 
     high : (t ≡ k → ⊥) → k ≤ t → ((eqb t k && s k) || (ltb t k && s t)) ≡ (ltb t (k + 1) && s t)
     high other h = let past : k + 1 ≤ t = omega arith in rw (ne-eqb t k other, le-ltb t k h, le-ltb t (k + 1) past) refl

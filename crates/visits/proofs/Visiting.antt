@@ -28,7 +28,7 @@ use Rattle.scratch.proofs.Prepared.{passable-kept, prepared-stored}
 use Rattle.one_pass.specs.System.{system}
 use Rattle.one_pass.proofs.Sums.{system-mono}
 use Rattle.due.specs.DueTasks.{Joined}
-use Rattle.due.proofs.DueTasks.{or-false}
+use Rattle.due.proofs.DueTasks.{neither}
 use Rattle.visits.specs.Visiting.{Quiet, Visitable, Moved}
 
 -- ---- lists
@@ -167,7 +167,7 @@ moved-both {n} {w = w} {w'} {w''} {changed} {more} first second =
       size = second .size ∙ first .size;
       times = second .times;
       raises = λ k h. le-trans (first .raises k h) (second .raises k h);
-      still = λ e. let none = or-false more changed e in second .still (none .0) ∙ first .still (none .1);
+      still = λ e. let none = neither more changed e in second .still (none .0) ∙ first .still (none .1);
       higher = λ e. higher more changed refl refl e;
     }
   where

@@ -24,13 +24,9 @@ fn all_levels() {
     let mut r = Rng(1616);
     for level in 0..=14 {
         for k in 0..60 {
-            let memory = r.range(0, if level >= 4 { 3 } else { 2 });
-            let (bus, refresh) = (r.range(0, 4), r.range(0, 2));
-            let mut s = shape(&mut r, level, memory, bus, refresh);
-            s.tasks = s.tasks.min(20);
-            let mut w = if k % 3 == 2 { wild_board(&mut r, s) } else { tuned_board(&mut r, s, k % 3 == 0) };
+            let mut w = board_at(&mut r, level, k);
             for _ in 0..3 {
-                let list = shuffled(&mut r, s.tasks as usize);
+                let list = shuffled(&mut r, w[1] as usize);
                 agree(&w, &list, Rules { level });
                 w[12] = r.range(1, 6);
             }
