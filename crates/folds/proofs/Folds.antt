@@ -204,6 +204,13 @@ pub countTo-first : (test : ℕ → Bool) (n : ℕ) → countTo test (suc n) ≡
 unfolding countTo
 countTo-first test n = sumTo-first (λ k. onlyIf (test k) 1) n
 
+-- two tests that agree but at s
+pub countTo-but : (test test' : ℕ → Bool) (n s : ℕ) → s < n → ((k : ℕ) → k < n → (k ≡ s → ⊥) → test k ≡ test' k)
+    → countTo test' n + onlyIf (test s) 1 ≡ countTo test n + onlyIf (test' s) 1
+unfolding countTo
+countTo-but test test' n s l same =
+    sumTo-but (λ k. onlyIf (test k) 1) (λ k. onlyIf (test' k) 1) n s l (λ k h ne. ap (λ t. onlyIf t 1) (same k h ne))
+
 -- ---- `anyTo`
 
 pub anyTo-none : (test : ℕ → Bool) → anyTo test 0 ≡ false

@@ -10,13 +10,19 @@ use native.Mathlib.Nat.{eq-or-lt-of-le, le-of-suc-le-suc, not-suc-le-zero}
 use native.Mathlib.Numerals.{add-one}
 use native.Mathlib.Omega.{arith}
 use lib.Dec.{eqb}
-use lib.ListN.{length, getD, set, length-append, length-set, List·getD-append}
+use lib.ListN.{length, getD, set, replicate, length-append, length-set, List·getD-append}
 use lib.Seq.{getD-at, ext-getD, getD-set-same, getD-set-other}
 use borrow.Author.Tests.{eqb-true, eq-eqb}
 use Rattle.folds.specs.Folds.{tabulate, fillTo, sameList}
 use Rattle.folds.proofs.Numbers.{below-suc, le-or-lt}
 
 -- ---- `set`
+
+-- a list of the default is the default everywhere
+pub getD-none : {A : Type 0} (n k : ℕ) (d : A) → getD (replicate n d) k d ≡ d
+getD-none zero k d = refl
+getD-none (suc n) zero d = refl
+getD-none (suc n) (suc k) d = getD-none n k d
 
 -- what holds of the value stored and of every element before holds of every element after
 pub getD-set-all : {A : Type 0} (P : A → Type 0) (xs : List A) (i : ℕ) (v d : A) → i < length xs → P v → ((k : ℕ) → P (getD xs k d))
