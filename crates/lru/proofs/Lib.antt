@@ -1,0 +1,7 @@
+-- The laws of a cache.
+pub mod Lists
+pub mod Recent
+pub mod Useful
+pub mod Blocks
+pub mod OneWay
+pub mod Slots
