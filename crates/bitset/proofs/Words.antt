@@ -1,7 +1,7 @@
 -- Laws of the bits of one word: its halves, the operations on words, the count of ones, and the word of a test.
 -- Assumes nothing.
 use mathlib.Core.Path.{_≡_, refl, sym, ap, ap₂, _∙_}
-use mathlib.Core.Bool.{Bool, true, false, not, _&&_, _||_}
+use mathlib.Core.Bool.{Bool, true, false, not, _&&_, _||_, xor}
 use Prim.Native.Nat.{ℕ, zero, suc, _+_, _-_, _*_, _/_, _%_, _^_, _<_, suc-le-suc}
 use native.Mathlib.Nat.{not-suc-le-zero, le-of-suc-le-suc, add-zero, mul-assoc, mul-one, one-mul, pow-suc, div-add-mod', zero-lt-suc}
 use native.Mathlib.Omega.{arith}
@@ -9,7 +9,7 @@ use native.Mathlib.Numerals.{one-add}
 use lib.Dec.{eqb, eqb·zero-suc, eqb·suc-zero, eqb·suc-suc}
 use lib.Arith.{digits-div, digits-mod}
 use lib.Pow.{shr-shr, shl-exact}
-use lib.Bits.{bitAnd, bitOr, and-shr, and-mod, or-shr, or-mod}
+use lib.Bits.{bitAnd, bitOr, bitXor, and-shr, and-mod, or-shr, or-mod, xor-shr, xor-mod}
 use lib.Count.{ones, onesIn, ones-step}
 use Rattle.folds.specs.Folds.{onlyIf, sumTo, countTo}
 use Rattle.folds.proofs.Folds.{sumTo-cong, sumTo-first, sumTo-scale, countTo-none, countTo-cong, countTo-first}
@@ -78,6 +78,10 @@ bit-or = bit-op bitOr _||_ or-shr or-mod (binary² (λ (x y : ℕ). eqb (bitOr x
 
 pub bit-and : (a b k : ℕ) → bit (bitAnd a b) k ≡ (bit a k && bit b k)
 bit-and = bit-op bitAnd _&&_ and-shr and-mod (binary² (λ (x y : ℕ). eqb (bitAnd x y) 1 ≡ (eqb x 1 && eqb y 1)) refl refl refl refl)
+
+pub bit-xor : (a b k : ℕ) → bit (bitXor a b) k ≡ xor (bit a k) (bit b k)
+unfolding xor
+bit-xor = bit-op bitXor xor xor-shr xor-mod (binary² (λ (x y : ℕ). eqb (bitXor x y) 1 ≡ xor (eqb x 1) (eqb y 1)) refl refl refl refl)
 
 -- the complement of a word of n bits
 not-half : (n x : ℕ) → x < 2 ^ suc n → (2 ^ suc n - 1) - x ≡ ((2 ^ n - 1) - x / 2) * 2 + (1 - x % 2)
