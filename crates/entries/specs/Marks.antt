@@ -1,0 +1,76 @@
+-- For the code: the mark of a slot, by which the scan that finds hits tells the scan that counts useful blocks what the slot does, and the entries
+-- that the first scan keeps.
+-- Assumes nothing.
+use Prim.Native.Nat.{ℕ, zero, suc, _+_, _-_, _*_, _/_, _<_}
+use mathlib.Core.Bool.{not, cond}
+use mathlib.Core.List.{List, [], _∷_, map}
+use mathlib.Core.Path.{_≡_}
+use lib.Dec.{eqb}
+use lib.ListN.{getD, set}
+use Rattle.folds.specs.Folds.{onlyIf}
+use Rattle.lru.specs.Recency.{recent}
+use Rattle.entries.specs.Entries.{found, shifted}
+use Rattle.lru.specs.Slots.{before, slotSet, slotHits, slotKept}
+
+-- the last slot below e that loads block m, and 0 where none does
+unfoldable pub lastOf : (ℕ → ℕ) → ℕ → ℕ → ℕ
+lastOf l zero m = 0
+lastOf l (suc e) m = cond (eqb (l e) (suc m)) e (lastOf l e m)
+
+-- the entry of block m before slot e
+abbrev pub entryOf : ℕ → (ℕ → ℕ) → ℕ → ℕ → ℕ
+entryOf base l e m = (base + suc m) * 2048 + lastOf l e m
+
+-- a word that has no key of a trace with this base
+abbrev pub Earlier : ℕ → ℕ → Type 0
+Earlier base entry = entry < (base + 1) * 2048
+
+-- no word of an array has one
+abbrev pub AllEarlier : ℕ → List ℕ → Type 0
+AllEarlier base held = (j : ℕ) → Earlier base (getD held j 0)
+
+-- the base of trace r of a board, and that of the next trace: a block is below 65,536
+abbrev pub baseOf : ℕ → ℕ
+baseOf r = 65536 * r
+
+abbrev pub nextBase : ℕ → ℕ
+nextBase base = base + 65536
+
+-- the n words of an array from i on are those of the list, and past its end they are of earlier traces
+abbrev pub Are : ℕ → List ℕ → ℕ → ℕ → List ℕ → Type 0
+Are base held i zero vs = Unit {0}
+Are base held i (suc n) [] = Earlier base (getD held i 0) × Are base held (suc i) n []
+Are base held i (suc n) (v ∷ vs) = (getD held i 0 ≡ v) × Are base held (suc i) n vs
+
+module _ (place : ℕ → ℕ) (ways : ℕ) (l : ℕ → ℕ) where
+  -- the entries of every set before slot e
+  abbrev pub Held : ℕ → List ℕ → ℕ → ℕ → Type 0
+  Held base held sets e = (s : ℕ) → s < sets → Are base held (s * ways) ways (map (entryOf base l e) (recent place s (before l e)))
+
+  -- the mark of slot i, as known before slot e: 4 × its set, 2 more where its load hits, and 1 more where the next load of its block, below e, hits
+  unfoldable pub markOf : ℕ → ℕ → ℕ
+  markOf e i = onlyIf (not (eqb (l i) 0)) (4 * slotSet place (l i)) + 2 * onlyIf (slotHits place ways l i) 1 + onlyIf (slotKept place ways l i (e - (i + 1))) 1
+
+  -- the marks of the slots below e
+  abbrev pub Marked : List ℕ → ℕ → Type 0
+  Marked marks e = (i : ℕ) → i < e → getD marks i 0 ≡ markOf e i
+
+-- what the code makes of the marks where slot e loads into set s: `last` is the slot + 1 of the block's last load where it is held, and 0 where not
+abbrev pub markMiss : List ℕ → ℕ → ℕ → List ℕ
+markMiss marks e s = set marks e (4 * s)
+
+abbrev pub markHit : List ℕ → ℕ → ℕ → ℕ → List ℕ
+markHit marks e s last = set (set marks e (4 * s + 2)) (last - 1) (getD (set marks e (4 * s + 2)) (last - 1) 0 / 2 * 2 + 1)
+
+unfoldable pub markLoad : List ℕ → ℕ → ℕ → ℕ → List ℕ
+markLoad marks e s last = cond (eqb last 0) (markMiss marks e s) (markHit marks e s last)
+
+-- a slot that loads x (a block + 1, or 0 for nothing) into set s: the entries and the marks after it, and 1 where its load misses
+unfoldable pub slotHeld : ℕ → ℕ → ℕ → ℕ → ℕ → List ℕ → List ℕ
+slotHeld base ways s x e array = cond (eqb x 0) array (shifted (base + x) ((base + x) * 2048 + e) array (s * ways) ways)
+
+unfoldable pub slotMarks : ℕ → ℕ → ℕ → ℕ → ℕ → List ℕ → List ℕ → List ℕ
+slotMarks base ways s x e array marks = cond (eqb x 0) (set marks e 0) (markLoad marks e s (found (base + x) array (s * ways) ways))
+
+unfoldable pub slotMissed : ℕ → ℕ → ℕ → ℕ → List ℕ → ℕ
+slotMissed base ways s x array = cond (eqb x 0) 0 (onlyIf (eqb (found (base + x) array (s * ways) ways) 0) 1)

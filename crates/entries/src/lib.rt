@@ -1,0 +1,27 @@
+// The blocks held in the sets of a cache, as words of a lent array.
+ghost use mathlib.Core.Path.{_≡_};
+ghost use Prim.Native.Nat.{_+_, _*_, _≤_, _<_};
+ghost use lib.ListN.{length};
+ghost use Rattle.entries.specs.Entries.{found, shifted};
+
+// Loads a block, whose key is x, in slot e into the set whose entries are the `ways` words from `from` on: it comes to the front. The slot + 1 of its
+// last load where it was held, and 0 where the load misses.
+pub fn touch(held: &mut [u64], from: usize, ways: usize, x: u64, e: u64) -> u64
+    requires { ⌜ (from + ways ≤ length (now held)) × (x ≤ 4294967295) × (e < 2048) ⌝ }
+    ensures { λ r. ⌜ (r ≡ found x (now (held .entry)) from ways)
+        × (now (held .exit) ≡ shifted x (x * 2048 + e) (now (held .entry)) from ways) × (r ≤ 2048) ⌝ }
+{
+    let end = from + ways;
+    let mut carried = x * 2048 + e;
+    let mut k = from;
+    while k < end {
+        let entry = held[k];
+        held[k] = carried;
+        if entry / 2048 == x {
+            return 1 + entry % 2048;
+        }
+        carried = entry;
+        k += 1;
+    }
+    0
+}
