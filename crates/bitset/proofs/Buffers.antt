@@ -1,23 +1,21 @@
--- Laws of a buffer of records: one record written holds its words, and every other is as it was; and what the records have in common with a test.
+-- Laws of a buffer of records: one record written holds its words, and every other is as it was.
 -- Assumes nothing.
-use Prim.Native.Nat.{ℕ, _+_, _*_, _≤_, _<_, max}
+use Prim.Native.Nat.{ℕ, _+_, _*_, _≤_, _<_}
 use mathlib.Core.Path.{_≡_, refl, sym, ap, subst, _∙_}
-use mathlib.Core.Bool.{Bool, false, _&&_}
+use mathlib.Core.Bool.{Bool, false}
 use mathlib.Core.List.{List}
 use mathlib.Core.Logic.{⊎-elim}
 use native.Mathlib.Nat.{add-zero}
 use native.Mathlib.Decide.{ℕ-discrete}
 use native.Mathlib.Omega.{arith}
 use lib.ListN.{length, getD, set}
-use Rattle.folds.specs.Folds.{countTo, tabulate}
+use Rattle.folds.specs.Folds.{tabulate}
 use Rattle.folds.specs.Stored.{Stored}
 use Rattle.folds.proofs.Numbers.{le-or-lt}
-use Rattle.folds.proofs.Folds.{maxTo-none, maxTo-cong, maxTo-bound, countTo-cong, countTo-bound}
 use Rattle.folds.proofs.Lists.{tabulate-cong}
-use Rattle.folds.proofs.Loops.{maxTo-turn}
 use Rattle.folds.proofs.Stored.{stored-none, stored-next}
-use Rattle.bitset.specs.Bits.{member, wordsOf}
-use Rattle.bitset.specs.Records.{recordAt, mostCommon}
+use Rattle.bitset.specs.Bits.{wordsOf}
+use Rattle.bitset.specs.Records.{recordAt}
 use Rattle.bitset.proofs.Sets.{empty-words, wordsOf-at}
 
 -- ---- a record
@@ -55,26 +53,3 @@ module _ (m : ℕ) {words w w' : List ℕ} (stored : Stored (λ k. getD words k 
       go : Dec (h ≡ m) → recordAt w' h ≡ wordsOf (g h)
       go (yes r) = ap (recordAt w') r ∙ record-words (g m) e ∙ ap (λ (k : ℕ). wordsOf (g k)) (sym r)
       go (no n) = record-other (omega arith) stored h n ∙ other n
-
--- ---- what the first m records have in common with a test
-
-module _ (buffer : List ℕ) where
-  pub mostCommon-bound : (m : ℕ) (test : ℕ → Bool) → mostCommon buffer m test ≤ 256
-  unfolding mostCommon
-  mostCommon-bound m test = maxTo-bound _ m 256 (λ q h. countTo-bound (λ s. member (recordAt buffer q) s && test s) 256)
-
-  pub mostCommon-none : (test : ℕ → Bool) → mostCommon buffer 0 test ≡ 0
-  unfolding mostCommon
-  mostCommon-none test = maxTo-none _
-
-  -- one record more, which has n sets in common with the test
-  pub mostCommon-turn : (q most n : ℕ) (test : ℕ → Bool) → most ≡ mostCommon buffer q test
-      → n ≡ countTo (λ s. member (recordAt buffer q) s && test s) 256 → max most n ≡ mostCommon buffer (q + 1) test
-  unfolding mostCommon
-  mostCommon-turn q most n test e h = maxTo-turn (λ k. countTo (λ s. member (recordAt buffer k) s && test s) 256) q e h
-
-  -- two tests that agree
-  pub mostCommon-cong : (m : ℕ) (test test' : ℕ → Bool) → ((s : ℕ) → s < 256 → test s ≡ test' s) → mostCommon buffer m test ≡ mostCommon buffer m test'
-  unfolding mostCommon
-  mostCommon-cong m test test' same =
-      maxTo-cong _ _ m (λ q h. countTo-cong _ _ 256 (λ s l. ap (λ (t : Bool). member (recordAt buffer q) s && t) (same s l)))

@@ -1,7 +1,7 @@
 -- Laws of four words as a set of numbers below 256: the words of a test, what each operation makes of them, and the count of two sets' common numbers.
 -- Assumes nothing.
 use mathlib.Core.Path.{_≡_, sym, ap, ap₂, _∙_}
-use mathlib.Core.Bool.{Bool, false, not, _&&_, _||_}
+use mathlib.Core.Bool.{Bool, false, _&&_, _||_}
 use mathlib.Core.List.{List, [], _∷_}
 use Prim.Native.Nat.{ℕ, _+_, _-_, _*_, _/_, _%_, _^_, _<_}
 use native.Mathlib.Nat.{lt-of-le-of-lt}
@@ -12,7 +12,7 @@ use mir.Val.{Fits}
 use lib.Dec.{eqb}
 use lib.ListN.{length, getD, set, length-set}
 use lib.Seq.{ext-getD, getD-set-same, getD-set-other}
-use lib.Bits.{bitAnd, bitOr, or-lt, and-le-l, and-le-r}
+use lib.Bits.{bitAnd, bitOr, or-lt, and-le-l}
 use lib.Count.{ones}
 use borrow.Author.Tests.{ne-eqb}
 use Rattle.folds.specs.Folds.{countTo, tabulate}
@@ -20,7 +20,7 @@ use Rattle.folds.proofs.Numbers.{eqb-iff}
 use Rattle.folds.proofs.Folds.{countTo-none, countTo-cong, countTo-split}
 use Rattle.folds.proofs.Lists.{getD-set-all, length-tabulate, getD-tabulate, tabulate-cong}
 use Rattle.bitset.specs.Bits.{bit, member, setWord, wordsOf}
-use Rattle.bitset.proofs.Words.{bit-none, bit-or, bit-and, bit-not, oneAt, bit-oneAt, ones-count, bit-wordOf, wordOf-is, wordOf-cong}
+use Rattle.bitset.proofs.Words.{bit-none, bit-or, bit-and, oneAt, bit-oneAt, ones-count, bit-wordOf, wordOf-is, wordOf-cong}
 
 -- ---- the words of a test
 
@@ -113,14 +113,6 @@ module _ (ws : List ℕ) (four : length ws ≡ 4) (fit : (k : ℕ) → Fits w64 
         (or-lt 64 (oneAt (s % 64)) (getD ws (s / 64) 0) (omega arith) (fit (s / 64) .fits))
         (λ j k. bit-or (oneAt (s % 64)) (getD ws (s / 64) 0) j ∙ ap₂ _||_ (one-here j) (sym (member-at ws (s / 64) j k)))
         (λ t n. ap (λ (b : Bool). b || member ws t) (one-there t n))
-
-    pub remove-words : set ws (s / 64) (bitAnd ((2 ^ 64 - 1) - oneAt (s % 64)) (getD ws (s / 64) 0)) ≡ wordsOf (λ t. not (eqb t s) && member ws t)
-    remove-words =
-        replace-words (s / 64) (bitAnd ((2 ^ 64 - 1) - oneAt (s % 64)) (getD ws (s / 64) 0)) (λ t. not (eqb t s) && member ws t) (omega arith)
-        (lt-of-le-of-lt (and-le-r ((2 ^ 64 - 1) - oneAt (s % 64)) (getD ws (s / 64) 0)) (fit (s / 64) .fits))
-        (λ j k. bit-and ((2 ^ 64 - 1) - oneAt (s % 64)) (getD ws (s / 64) 0) j
-        ∙ ap₂ _&&_ (bit-not 64 (oneAt (s % 64)) j (omega arith) k ∙ ap not (one-here j)) (sym (member-at ws (s / 64) j k)))
-        (λ t n. ap (λ (b : Bool). not b && member ws t) (one-there t n))
 
 -- ---- how many numbers two sets have in common
 

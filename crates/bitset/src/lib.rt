@@ -4,7 +4,7 @@ pub mod records;
 pub mod word;
 
 ghost use mathlib.Core.Path.{_≡_};
-ghost use mathlib.Core.Bool.{not, _&&_, _||_, false};
+ghost use mathlib.Core.Bool.{_&&_, _||_, false};
 ghost use Prim.Native.Nat.{ℕ, _<_, _≤_};
 ghost use lib.Dec.{eqb};
 ghost use lib.Bits.{bitAnd};
@@ -20,15 +20,7 @@ pub fn empty() -> [u64; 4]
     [0u64; 4]
 }
 
-// Whether s is in a set that is lent, s added to it, and s taken out of it.
-pub fn is_in(set: &[u64], s: usize) -> bool
-    requires { ⌜ (s < 256) × (length (now set) ≡ 4) ⌝ }
-    ensures { λ r. ⌜ r ≡ member (now (set .entry)) s ⌝ }
-{
-    let w = set[s / 64];
-    (w >> (s % 64)) % 2 == 1
-}
-
+// Adds s to a set that is lent.
 pub fn add_to(set: &mut [u64], s: usize)
     requires { ⌜ (s < 256) × (length (now set) ≡ 4) ⌝ }
     ensures { λ _. ⌜ now (set .exit) ≡ wordsOf (λ (t : ℕ). eqb t s || member (now (set .entry)) t) ⌝ }
@@ -36,15 +28,6 @@ pub fn add_to(set: &mut [u64], s: usize)
     let i = s / 64;
     let w = set[i];
     set[i] = (1u64 << (s % 64)) | w;
-}
-
-pub fn take_from(set: &mut [u64], s: usize)
-    requires { ⌜ (s < 256) × (length (now set) ≡ 4) ⌝ }
-    ensures { λ _. ⌜ now (set .exit) ≡ wordsOf (λ (t : ℕ). not (eqb t s) && member (now (set .entry)) t) ⌝ }
-{
-    let i = s / 64;
-    let w = set[i];
-    set[i] = !(1u64 << (s % 64)) & w;
 }
 
 // The numbers in a or in b.

@@ -1,2 +1,3 @@
 -- The laws of a board that passed its checks.
 pub mod Extents
+pub mod Ways

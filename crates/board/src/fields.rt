@@ -1,5 +1,6 @@
 // One accessor a field: the word of a board that passed its checks, with its range.
 use folds::index;
+use folds::larger;
 ghost use mathlib.Core.Path.{_≡_};
 ghost use Prim.Native.Nat.{_+_, _*_, _<_, _≤_};
 ghost use Rattle.board.specs.Layout as at;
@@ -29,7 +30,7 @@ pub fn traces(board: &[u32]) -> u32
     board[2]
 }
 
-// 0 none, 1 scratchpad, 2 direct-mapped cache.
+// 0 none, 1 scratchpad, 2 cache.
 pub fn memory(board: &[u32]) -> u32
     requires { ⌜ Sound (now board) ⌝ }
     ensures { λ r. ⌜ (r ≡ at.memory (now (board .entry))) × (r ≤ 2) ⌝ }
@@ -131,6 +132,14 @@ pub fn cache_sets(board: &[u32]) -> u32
     ensures { λ r. ⌜ (r ≡ at.cacheSets (now (board .entry))) × Between 1 256 r ⌝ }
 {
     board[13]
+}
+
+// The ways of a cache, where 0 stands for 1.
+pub fn ways(board: &[u32]) -> u32
+    requires { ⌜ Sound (now board) ⌝ }
+    ensures { λ r. ⌜ (r ≡ at.ways (now (board .entry))) × Between 1 8 r ⌝ }
+{
+    larger(1, board[15])
 }
 
 // Word `field` of task k.

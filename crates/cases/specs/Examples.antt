@@ -1,15 +1,18 @@
--- K1 to K11, the worked examples of document 01, and K1 in a chosen order, as one theorem about the definitions that the calls' contracts cite, by computation.
+-- K1 to K11, the worked examples of document 01, and small examples of document 02's requests (K1 in a chosen order, caches with several ways), as one
+-- theorem about the definitions that the calls' contracts cite, by computation.
 -- Assumes nothing.
-use Prim.Native.Nat.{ℕ, _/_, _%_}
-use mathlib.Core.List.{List, [], _∷_}
+use Prim.Native.Nat.{ℕ, suc, _/_, _%_}
+use mathlib.Core.List.{List, [], _∷_, _++_, map}
 use mathlib.Core.Path.{_≡_, refl}
-use lib.ListN.{length}
+use lib.Dec.{leb}
+use lib.ListN.{length, set}
 use Rattle.folds.specs.Folds.{ceilDiv, sumTo, maxTo, countTo, anyTo, firstFrom, tabulate, joinTo, fillTo, sameList}
 use Rattle.bitset.specs.Bits.{wordOf, wordsOf}
 use Rattle.board.specs.Layout.{firstTrace, firstInstruction}
 use Rattle.ranges.specs.Ranges.{headerRanges, headerOk, taskRanges, taskOk, workOk}
 use Rattle.refusals.specs.Refusals.{refuseUnless, firstBad, refuseFirst, refusalOf}
-use Rattle.trace.specs.Cache.{firstIn, lastIn, someIn, hits, missCount}
+use Rattle.lru.specs.Recency.{among, without, countIn, someIn, recent, hits, missCount, nextHits, usefulIn}
+use Rattle.trace.specs.Cache.{placeOf}
 use Rattle.trace.specs.Traces.{traceOf, loads, tracePD, busLoads, traceMD, evicts, useful, usefulAt, mostUseful}
 use Rattle.figures.specs.Figures.{taskPD, taskMD, evicting, figureOf}
 use Rattle.figures.specs.Overhead.{evictedBy, reloads, γ}
@@ -25,7 +28,7 @@ use Rattle.answer_page.specs.AnswerPage.{answerPage}
 use Rattle.page.specs.Page.{boardPage, pageOf}
 use Rattle.answers.specs.declared.Answer.{Answer}
 use Rattle.answers.specs.declared.Answer.the-variants.{Times, Late, Spent, Refused}
-use Rattle.answers.specs.declared.Outcome.the-variants.{Value}
+use Rattle.answers.specs.declared.Outcome.the-variants.{Value, Refused as Outcome·Refused}
 
 -- ---- K1 to K8: boards without a cache, which `sums` has
 
@@ -61,42 +64,65 @@ K1-page =
     ∷ 50 ∷ 32 ∷ 50 ∷ 32 ∷ 50 ∷ 57 ∷ 32 ∷ 54 ∷ 48 ∷ 10
     ∷ []
 
--- ---- K9 to K11: a cache of four sets, execute only
+-- ---- K9 to K11, and caches with several ways: four sets, execute only
 
--- one task that fetches x, y, z
-abbrev oneTask : ℕ → ℕ → ℕ → List ℕ
-oneTask x y z =
-    1 ∷ 1 ∷ 1 ∷ 3 ∷ 2 ∷ 2 ∷ 0 ∷ 5 ∷ 0 ∷ 0 ∷ 0 ∷ 0 ∷ 100 ∷ 4 ∷ 0 ∷ 0 ∷ 0 ∷ 0 ∷ 0 ∷ 0
+-- one task that fetches the blocks in turn, with w in word 15
+abbrev alone : ℕ → List ℕ → List ℕ
+alone w blocks =
+    (1 ∷ 1 ∷ 1 ∷ length blocks ∷ 2 ∷ 2 ∷ 0 ∷ 5 ∷ 0 ∷ 0 ∷ 0 ∷ 0 ∷ 100 ∷ 4 ∷ 0 ∷ w ∷ 0 ∷ 0 ∷ 0 ∷ 0
     ∷ 1 ∷ 100 ∷ 100 ∷ 1 ∷ 0
-    ∷ 3
-    ∷ x ∷ y ∷ z
-    ∷ 0 ∷ 0 ∷ 0
-    ∷ []
+    ∷ length blocks
+    ∷ blocks)
+    ++ map (λ m. 0) blocks
+
+-- the same as task 2, and task 1 on the same core fetching only block m
+abbrev below : ℕ → ℕ → List ℕ → List ℕ
+below m w blocks =
+    (1 ∷ 2 ∷ 2 ∷ suc (length blocks) ∷ 2 ∷ 2 ∷ 0 ∷ 5 ∷ 0 ∷ 0 ∷ 0 ∷ 0 ∷ 100 ∷ 4 ∷ 0 ∷ w ∷ 0 ∷ 0 ∷ 0 ∷ 0
+    ∷ 1 ∷ 100 ∷ 100 ∷ 1 ∷ 0
+    ∷ 1 ∷ 100 ∷ 100 ∷ 1 ∷ 0
+    ∷ 1 ∷ length blocks
+    ∷ m ∷ blocks)
+    ++ 0 ∷ map (λ m. 0) blocks
 
 abbrev K9 : List ℕ
-K9 = oneTask 0 1 0
+K9 = alone 0 (0 ∷ 1 ∷ 0 ∷ [])
 
 abbrev K10 : List ℕ
-K10 = oneTask 0 4 0
+K10 = alone 0 (0 ∷ 4 ∷ 0 ∷ [])
 
--- K9's trace as task 2, and task 1 on the same core fetching only block m
+-- K9's trace as task 2, and task 1 fetching only block m
 abbrev K11 : ℕ → List ℕ
-K11 m =
-    1 ∷ 2 ∷ 2 ∷ 4 ∷ 2 ∷ 2 ∷ 0 ∷ 5 ∷ 0 ∷ 0 ∷ 0 ∷ 0 ∷ 100 ∷ 4 ∷ 0 ∷ 0 ∷ 0 ∷ 0 ∷ 0 ∷ 0
-    ∷ 1 ∷ 100 ∷ 100 ∷ 1 ∷ 0
-    ∷ 1 ∷ 100 ∷ 100 ∷ 1 ∷ 0
-    ∷ 1 ∷ 3
-    ∷ m ∷ 0 ∷ 1 ∷ 0
-    ∷ 0 ∷ 0 ∷ 0 ∷ 0
-    ∷ []
+K11 m = below m 0 (0 ∷ 1 ∷ 0 ∷ [])
+
+-- two, three, four and five blocks of set 0, in a cycle that is gone through twice
+abbrev two : List ℕ
+two = 0 ∷ 4 ∷ 0 ∷ 4 ∷ []
+
+abbrev three : List ℕ
+three = 0 ∷ 4 ∷ 8 ∷ 0 ∷ 4 ∷ 8 ∷ []
+
+abbrev four : List ℕ
+four = 0 ∷ 4 ∷ 8 ∷ 12 ∷ 0 ∷ 4 ∷ 8 ∷ 12 ∷ []
+
+abbrev five : List ℕ
+five = 0 ∷ 4 ∷ 8 ∷ 12 ∷ 16 ∷ 0 ∷ 4 ∷ 8 ∷ 12 ∷ 16 ∷ []
+
+-- block 0 of set 0 again and again, each time after another block of the set: the hit at point 2 keeps it there past the load of block 8
+abbrev refreshed : List ℕ
+refreshed = 0 ∷ 4 ∷ 0 ∷ 8 ∷ 0 ∷ []
 
 -- the board passes the checks of Figures; task 1's MD and ECB
 abbrev Figured : List ℕ → ℕ → List ℕ → Type 0
 Figured b md ecb = (figuresAnswer b 1 ≡ Value 1) × (figureOf b 0 .md ≡ md) × (figureOf b 0 .ecb ≡ ecb)
 
--- the sets useful at points 0, 1 and 2 of its trace
+-- the sets that have a useful block at points 0, 1 and 2 of its trace
 abbrev usefulSets : List ℕ → List (List ℕ)
-usefulSets b = tabulate (λ p. wordsOf (useful (traceOf b 0) p)) 3
+usefulSets b = tabulate (λ p. wordsOf (λ s. leb 1 (useful (traceOf b 0) p s))) 3
+
+-- how many blocks of set 0 are useful at each of its points
+abbrev usefulBlocks : List ℕ → List ℕ
+usefulBlocks b = tabulate (λ p. useful (traceOf b 0) p 0) (traceOf b 0 .len)
 
 -- set 0 alone, sets 0 and 1, and no set
 abbrev set0 : List ℕ
@@ -129,6 +155,24 @@ pub examples :
     × (usefulSets K10 ≡ noSet ∷ noSet ∷ noSet ∷ [])
     × (overheadAnswer (K11 4) 2 1 ≡ Value 1)
     × (overheadAnswer (K11 5) 2 1 ≡ Value 0)
+    × Figured (set K9 15 1) 2 sets01
+    × (usefulSets (set K9 15 1) ≡ usefulSets K9)
+    × (overheadAnswer (set (K11 4) 15 1) 2 1 ≡ Value 1)
+    × Figured (alone 2 two) 2 set0
+    × (usefulBlocks (alone 2 two) ≡ 0 ∷ 1 ∷ 2 ∷ 1 ∷ [])
+    × Figured (alone 2 three) 6 set0
+    × (usefulBlocks (alone 2 three) ≡ 0 ∷ 0 ∷ 0 ∷ 0 ∷ 0 ∷ 0 ∷ [])
+    × Figured (alone 4 four) 4 set0
+    × (usefulBlocks (alone 4 four) ≡ 0 ∷ 1 ∷ 2 ∷ 3 ∷ 4 ∷ 3 ∷ 2 ∷ 1 ∷ [])
+    × Figured (alone 4 five) 10 set0
+    × Figured (alone 2 refreshed) 3 set0
+    × (usefulBlocks (alone 2 refreshed) ≡ 0 ∷ 1 ∷ 1 ∷ 1 ∷ 1 ∷ [])
+    × (overheadAnswer (below 8 2 two) 2 1 ≡ Value 2)
+    × (overheadAnswer (below 5 2 two) 2 1 ≡ Value 0)
+    × (overheadAnswer (below 8 1 two) 2 1 ≡ Value 0)
+    × (overheadAnswer (below 8 4 three) 2 1 ≡ Value 3)
+    × (figuresAnswer (alone 3 two) 1 ≡ Outcome·Refused 2 15)
+    × (figuresAnswer (set K1 15 2) 2 ≡ Outcome·Refused 2 15)
     × SettlesIn K1 (1 ∷ 2 ∷ []) 3
     × SettlesIn K1 (2 ∷ 1 ∷ []) 4
     × SettlesIn (K5 3) (1 ∷ 2 ∷ []) 3
@@ -138,7 +182,7 @@ pub examples :
     × (inOrder K1 (2 ∷ 3 ∷ []) ≡ Refused 16 1)
     × (inOrder K1 (0 ∷ 0 ∷ []) ≡ Refused 16 0)
     × (inOrder K1 (2 ∷ 2 ∷ []) ≡ Refused 16 1)
-unfolding ceilDiv sumTo maxTo countTo anyTo firstFrom tabulate fillTo sameList wordOf wordsOf firstTrace firstInstruction headerRanges headerOk taskRanges taskOk workOk refuseUnless firstBad refuseFirst refusalOf firstIn lastIn someIn hits missCount traceOf loads tracePD busLoads traceMD evicts useful usefulAt mostUseful taskPD taskMD evicting figureOf evictedBy reloads γ memoryDemand ownAccesses carryIn coreAccesses lowerAccesses interference busAccesses refreshes higherWork taskSum pass inTurn after unchanged changes passesBy settledBy firstLate figuresRefusal overheadRefusal analyseRefusal inOrderRefusal figuresAnswer overheadAnswer settledAnswer analyseAnswer inOrderAnswer timesLeft wordsIn inputRefusal digitsOf decimal line joinTo answerPage boardPage pageOf
+unfolding ceilDiv sumTo maxTo countTo anyTo firstFrom tabulate fillTo sameList wordOf wordsOf firstTrace firstInstruction headerRanges headerOk taskRanges taskOk workOk refuseUnless firstBad refuseFirst refusalOf among without countIn someIn recent hits missCount nextHits usefulIn placeOf traceOf loads tracePD busLoads traceMD evicts useful usefulAt mostUseful taskPD taskMD evicting figureOf evictedBy reloads γ memoryDemand ownAccesses carryIn coreAccesses lowerAccesses interference busAccesses refreshes higherWork taskSum pass inTurn after unchanged changes passesBy settledBy firstLate figuresRefusal overheadRefusal analyseRefusal inOrderRefusal figuresAnswer overheadAnswer settledAnswer analyseAnswer inOrderAnswer timesLeft wordsIn inputRefusal digitsOf decimal line joinTo answerPage boardPage pageOf
 examples = (
   (refl, refl),
   refl,
@@ -155,6 +199,24 @@ examples = (
   (refl, refl, refl),
   refl,
   (refl, refl, refl),
+  refl,
+  refl,
+  refl,
+  (refl, refl, refl),
+  refl,
+  refl,
+  (refl, refl, refl),
+  refl,
+  (refl, refl, refl),
+  refl,
+  (refl, refl, refl),
+  refl,
+  (refl, refl, refl),
+  (refl, refl, refl),
+  refl,
+  refl,
+  refl,
+  refl,
   refl,
   refl,
   refl,

@@ -9,11 +9,11 @@ use native.Mathlib.Omega.{arith}
 use lib.Dec.{eqb}
 use lib.ListN.{getD, set}
 use Rattle.folds.specs.Folds.{onlyIf, fillTo}
-use Rattle.folds.proofs.Lists.{fillTo-from, fillTo-is}
+use Rattle.folds.proofs.Lists.{length-fillTo, fillTo-below, fillTo-from, fillTo-is, fillTo-cong}
 use Rattle.folds.proofs.Loops.{fillTo-turn}
 use Rattle.board.specs.Layout.{core}
-use Rattle.bitset.specs.Records.{mostCommon}
-use Rattle.bitset.proofs.Buffers.{mostCommon-none}
+use Rattle.counts.specs.Records.{mostCommon}
+use Rattle.counts.proofs.Buffers.{mostCommon-none}
 use Rattle.figures.specs.Overhead.{evictedBy}
 use Rattle.figures.specs.Rows.{onCoreOf, raised}
 
@@ -32,15 +32,37 @@ pub raised-none : (f : ℕ → ℕ) (i : ℕ) (row : List ℕ) → ((j : ℕ) �
 raised-none f i row none = sym (fillTo-same _ row i (λ j h. omega (arith, none j)))
 
 -- by no records
-pub common-none : (b : List ℕ) (i : ℕ) (lives : List ℕ) (m : ℕ) (row : List ℕ) → m ≡ 0 → row ≡ raised (onCoreOf b i (λ j. mostCommon lives m (evictedBy b j))) i row
-common-none b i lives m row none =
-    raised-none _ i row (λ j. onlyIf-zero (eqb (core b i) (core b j)) _ (ap (λ (k : ℕ). mostCommon lives k (evictedBy b j)) none ∙ mostCommon-none lives _))
+pub common-none : (b : List ℕ) (i : ℕ) (lives : List ℕ) (planes m : ℕ) (row : List ℕ) → m ≡ 0
+    → row ≡ raised (onCoreOf b i (λ j. mostCommon lives planes planes m (evictedBy b j))) i row
+common-none b i lives planes m row none =
+    raised-none _ i row (λ j. onlyIf-zero (eqb (core b i) (core b j)) _ (ap (λ (k : ℕ). mostCommon lives planes planes k (evictedBy b j)) none ∙ mostCommon-none lives planes planes _))
 
 -- one word more
 pub raised-turn : (f : ℕ → ℕ) (row : List ℕ) (j : ℕ) {out : List ℕ} {v x : ℕ} → out ≡ raised f j row → x ≡ f j → v ≡ max (getD out j 0) x
     → set out j v ≡ raised f (j + 1) row
 raised-turn f row j e h q =
     fillTo-turn (λ k. max (getD row k 0) (f k)) row j e (q ∙ ap₂ max (ap (λ l. getD l j 0) e ∙ fillTo-from _ row 0 j j (le-refl j)) h)
+
+-- raised twice
+raised-both : (f g : ℕ → ℕ) (i : ℕ) (row : List ℕ) → raised g i (raised f i row) ≡ raised (λ j. max (f j) (g j)) i row
+raised-both f g i row =
+    let once : ℕ → ℕ = λ j. max (getD row j 0) (f j) in
+    let twice : ℕ → ℕ = λ j. max (getD (raised f i row) j 0) (g j) in
+    fillTo-is (λ j. max (getD row j 0) (max (f j) (g j))) row 0 i (raised g i (raised f i row)) (length-fillTo twice (raised f i row) i ∙ length-fillTo once row i)
+    (λ j l w. omega (arith, fillTo-below twice (raised f i row) 0 i j l (omega (arith, length-fillTo once row i)), fillTo-below once row 0 i j l w))
+    (λ j l. fillTo-from twice (raised f i row) 0 i j l ∙ fillTo-from once row 0 i j l)
+
+onlyIf-max : (test : Bool) (x y : ℕ) → max (onlyIf test x) (onlyIf test y) ≡ onlyIf test (max x y)
+onlyIf-max true x y = refl
+onlyIf-max false x y = refl
+
+-- by F on the core of task i, and then by G
+pub raised-more : (b : List ℕ) (i : ℕ) (F G H : ℕ → ℕ) (row out next : List ℕ) → out ≡ raised (onCoreOf b i F) i row
+    → next ≡ raised (onCoreOf b i G) i out → ((j : ℕ) → max (F j) (G j) ≡ H j) → next ≡ raised (onCoreOf b i H) i row
+raised-more b i F G H row out next e q both =
+    q ∙ ap (raised (onCoreOf b i G) i) e ∙ raised-both (onCoreOf b i F) (onCoreOf b i G) i row
+    ∙ fillTo-cong _ _ row i
+    (λ j l. ap (max (getD row j 0)) (onlyIf-max (eqb (core b i) (core b j)) (F j) (G j) ∙ ap (onlyIf (eqb (core b i) (core b j))) (both j)))
 
 -- ---- the table
 

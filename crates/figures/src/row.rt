@@ -1,13 +1,14 @@
 // A row of overheads: word j has γ(i, j) of the task i at hand.
-use bitset::records::most_common;
 use bitset::records::read;
 use board::fields;
+use counts::needed::needed;
+use counts::records::most_common;
 use folds::larger;
 ghost use mathlib.Core.Path.{_≡_};
 ghost use Prim.Native.Nat.{ℕ, _+_, _*_, _<_, _≤_};
 ghost use lib.ListN.{length};
-ghost use Rattle.bitset.specs.Records.{mostCommon};
 ghost use Rattle.board.specs.Layout.{mostTasks, scratchWords, mostScratch};
+ghost use Rattle.counts.specs.Records.{mostCommon};
 ghost use Rattle.figures.specs.Ready.{Ready};
 ghost use Rattle.figures.specs.Overhead.{evictedBy};
 ghost use Rattle.figures.specs.Rows.{Evicted, onCoreOf, raised};
@@ -20,38 +21,51 @@ pub fn place(n: usize, i: usize) -> usize
     4 * n + i * n
 }
 
-// Raises the row by the m records of a trace of task i, for each higher task j on its core. A trace with no records raises nothing.
+// Raises the row by m records of a trace of task i, for each higher task j on its core. No records raise nothing.
 pub fn raise(
     board: &[u32],
     i: usize,
     evicted: &[u64; 256],
     lives: &[u64],
+    planes: usize,
     m: usize,
     row: &mut [u32; 64],
 )
-    requires { ⌜ (Ready (now board) i) × (Evicted (now board) i (now evicted)) × (4 * m ≤ length (now lives)) ⌝ }
+    requires { ⌜ (Ready (now board) i) × (Evicted (now board) i (now evicted)) × (1 ≤ planes) × (planes ≤ 4) × (m ≤ 1024)
+        × (4 * (m * planes) ≤ length (now lives)) ⌝ }
     ensures { λ _. ⌜ now (row .exit) ≡ raised (onCoreOf (now (board .entry)) i
-        (λ (j : ℕ). mostCommon (now (lives .entry)) m (evictedBy (now (board .entry)) j))) i (now (row .entry)) ⌝ }
+        (λ (j : ℕ). mostCommon (now (lives .entry)) planes planes m (evictedBy (now (board .entry)) j))) i (now (row .entry)) ⌝ }
 {
     if m == 0 {
         return;
     }
+    let used = needed(lives, planes, m);
     let mut j: usize = 0;
     while j < i {
-        row[j] = larger(row[j], common(board, i, j, evicted, lives, m));
+        row[j] = larger(row[j], common(board, i, j, evicted, lives, planes, used, m));
         j += 1;
     }
 }
 
-// The most sets that a record of a trace of task i has in common with those evicted by task j; none from another core.
-fn common(board: &[u32], i: usize, j: usize, evicted: &[u64; 256], lives: &[u64], m: usize) -> u32
-    requires { ⌜ (Ready (now board) i) × (j < i) × (Evicted (now board) i (now evicted)) × (4 * m ≤ length (now lives)) ⌝ }
-    ensures { λ r. ⌜ r ≡ onCoreOf (now (board .entry)) i (λ (k : ℕ). mostCommon (now (lives .entry)) m (evictedBy (now (board .entry)) k)) j ⌝ }
+// The most useful blocks that a record of a trace of task i has in the sets evicted by task j, by the planes used; none from another core.
+fn common(
+    board: &[u32],
+    i: usize,
+    j: usize,
+    evicted: &[u64; 256],
+    lives: &[u64],
+    planes: usize,
+    used: usize,
+    m: usize,
+) -> u32
+    requires { ⌜ (Ready (now board) i) × (j < i) × (Evicted (now board) i (now evicted)) × (1 ≤ used) × (used ≤ planes) × (planes ≤ 4) × (m ≤ 1024)
+        × (4 * (m * planes) ≤ length (now lives)) ⌝ }
+    ensures { λ r. ⌜ r ≡ onCoreOf (now (board .entry)) i (λ (k : ℕ). mostCommon (now (lives .entry)) planes used m (evictedBy (now (board .entry)) k)) j ⌝ }
 {
     let x = fields::core(board, i);
     let y = fields::core(board, j);
     if x != y {
         return 0;
     }
-    most_common(lives, m, read(evicted, j))
+    most_common(lives, planes, used, m, read(evicted, j))
 }

@@ -1,3 +1,3 @@
 -- The laws of the scan that marks a trace.
 pub mod Evicting
-pub mod Marking
+pub mod Turns

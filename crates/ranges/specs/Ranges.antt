@@ -5,7 +5,7 @@ use mathlib.Core.Bool.{Bool, cond, _&&_}
 use mathlib.Core.List.{List, [], _∷_}
 use lib.ListN.{getD}
 use lib.Dec.{leb, ltb, eqb}
-use Rattle.board.specs.Layout.{word, cores, memory, bus, refresh, kindOf, blockOf, mostTasks, longest, mostRefreshRows, firstDataBlock}
+use Rattle.board.specs.Layout.{word, cores, memory, bus, refresh, kindOf, blockOf, mostTasks, longest, mostRefreshRows, firstDataBlock, isWays}
 
 -- low .. high
 abbrev pub within : ℕ → ℕ → ℕ → Bool
@@ -14,9 +14,13 @@ within low high x = leb low x && leb x high
 abbrev pub isZero : ℕ → Bool
 isZero x = eqb x 0
 
+-- a word that passes the test where it is in use, and is 0 where not
+abbrev pub testIf : Bool → (ℕ → Bool) → ℕ → Bool
+testIf used test x = cond used (test x) (isZero x)
+
 -- low .. high where the word is in use, and 0 where not
 abbrev pub rangeIf : Bool → ℕ → ℕ → ℕ → Bool
-rangeIf used low high x = cond used (within low high x) (isZero x)
+rangeIf used low high = testIf used (within low high)
 
 -- the range of each header word; the words past these are spare
 unfoldable pub headerRanges : List ℕ → List (ℕ → Bool)
@@ -36,6 +40,7 @@ headerRanges b =
     ∷ leb 1
     ∷ (λ x. cond (eqb (memory b) 2) (within 1 256 x) (rangeIf (eqb (memory b) 1) 0 firstDataBlock x))
     ∷ rangeIf (eqb (memory b) 1) 0 firstDataBlock
+    ∷ testIf (eqb (memory b) 2) isWays
     ∷ []
 
 unfoldable pub headerOk : List ℕ → ℕ → Bool

@@ -6,7 +6,8 @@ use board::work;
 ghost use mathlib.Core.Path.{_≡_};
 ghost use Prim.Native.Nat.{_≤_, _<_};
 ghost use lib.ListN.{length};
-ghost use Rattle.ranges.specs.Ranges.{headerOk, taskOk, workOk, rangeIf};
+ghost use Rattle.board.specs.Layout.{isWays};
+ghost use Rattle.ranges.specs.Ranges.{headerOk, taskOk, workOk, testIf, rangeIf};
 ghost use Rattle.ranges.specs.Ranges.{within as Ranges·within};
 ghost use Rattle.ranges.specs.Parts.{wordOk};
 
@@ -33,7 +34,18 @@ fn range_if(used: bool, low: u32, high: u32, x: u32) -> bool
     if used { within(low, high, x) } else { x == 0 }
 }
 
-// Words 15 and above are spare.
+// Whether x may be the ways of a cache where there is one, and 0 where not.
+fn ways_if(cached: bool, x: u32) -> bool
+    ensures { λ r. ⌜ r ≡ testIf cached isWays x ⌝ }
+{
+    if cached {
+        (x == 0) | (x == 1) | (x == 2) | (x == 4) | (x == 8)
+    } else {
+        x == 0
+    }
+}
+
+// Words 16 and above are spare.
 fn header_ok(board: &[u32], i: usize) -> bool
     requires { ⌜ (20 ≤ length (now board)) × (i < length (now board)) ⌝ }
     ensures { λ r. ⌜ r ≡ headerOk (now (board .entry)) i ⌝ }
@@ -64,6 +76,7 @@ fn header_ok(board: &[u32], i: usize) -> bool
             }
         }
         14 => range_if(memory == 1, 0, FIRST_DATA_BLOCK, x),
+        15 => ways_if(memory == 2, x),
         _ => x == 0,
     }
 }

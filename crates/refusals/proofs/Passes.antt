@@ -11,7 +11,7 @@ use lib.Dec.{leb, eqb}
 use Rattle.board.specs.Layout as at
 use Rattle.board.specs.Layout.{word, kindOf, blockOf}
 use Rattle.board.specs.Sound.{Between, Sound}
-use Rattle.ranges.specs.Ranges.{within, rangeIf, headerRanges, headerOk, taskRanges, taskOk, lengthOk, fetchOk, workOk}
+use Rattle.ranges.specs.Ranges.{within, testIf, rangeIf, headerRanges, headerOk, taskRanges, taskOk, lengthOk, fetchOk, workOk}
 use Rattle.ranges.proofs.Rows.{headerSpare, taskRow, taskSpare}
 use Rattle.refusals.specs.Refusals.{firstBad, refuseFirst, refusalOf}
 use Rattle.refusals.specs.declared.Verdict.the-variants.{Passed}
@@ -24,9 +24,12 @@ use Rattle.refusals.proofs.Verdicts.{refuseUnless-true, refuseFirst-non
 pub within-is : (low high x : ℕ) → Between low high x → within low high x ≡ true
 within-is low high x h = rw (le-leb low x (h .0), le-leb x high (h .1))
 
+testIf-is : (t : Bool) (test : ℕ → Bool) (x : ℕ) → (t ≡ true → test x ≡ true) → (t ≡ false → x ≡ 0) → testIf t test x ≡ true
+testIf-is true test x h n = h refl
+testIf-is false test x h n = eq-eqb x 0 (n refl)
+
 rangeIf-is : (t : Bool) (low high x : ℕ) → (t ≡ true → Between low high x) → (t ≡ false → x ≡ 0) → rangeIf t low high x ≡ true
-rangeIf-is true low high x h n = within-is low high x (h refl)
-rangeIf-is false low high x h n = eq-eqb x 0 (n refl)
+rangeIf-is t low high x h n = testIf-is t (within low high) x (λ u. within-is low high x (h u)) n
 
 codeOrSets-is : (m x : ℕ) → m ≤ 2 → (m ≡ 1 → x ≤ at.firstDataBlock) → (m ≡ 2 → Between 1 256 x) → (m ≡ 0 → x ≡ 0) → codeOrSets m x ≡ true
 codeOrSets-is zero x l h s n = eq-eqb x 0 (n refl)
@@ -76,7 +79,8 @@ module _ (b : List ℕ) (s : Sound b) where
       ∙ next 12 (omega arith) (le-leb 1 _ (s .limit))
       ∙ next 13 (omega arith) (codeOrSets-is (at.memory b) _ (s .memory) (s .held) (s .sets) (s .noMemory))
       ∙ next 14 (omega arith) (rangeIf-is _ 0 at.firstDataBlock _ (λ t. (omega arith, s .heldData)) (λ t. s .noHeldData (eqb-false _ 1 t)))
-      ∙ firstBad-none (headerOk b) 15 20 (omega arith) (λ i l u. sym (headerSpare b i l) ∙ eq-eqb _ 0 (s .spare i l u))
+      ∙ next 15 (omega arith) (testIf-is (eqb (at.memory b) 2) at.isWays _ (λ t. s .ways (eqb-true _ 2 t)) (λ t. s .noWays (eqb-false _ 2 t)))
+      ∙ firstBad-none (headerOk b) 16 20 (omega arith) (λ i l u. sym (headerSpare b i l) ∙ eq-eqb _ 0 (s .spare i l u))
 
   task : (k f : ℕ) → k < at.tasks b → f < 5 → taskOk b (20 + 5 * k + f) ≡ true
   unfolding taskRanges

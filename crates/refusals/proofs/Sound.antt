@@ -5,14 +5,14 @@ use mathlib.Core.Path.{_≡_, refl, subst, _∙_}
 use mathlib.Core.Bool.{Bool, true, false, cond, _&&_}
 use mathlib.Core.List.{List}
 use native.Mathlib.Omega.{arith}
-use borrow.Author.Tests.{leb-true, ltb-true, eqb-true, eqb-false, ne-eqb, le-leb, lt-leb}
+use borrow.Author.Tests.{leb-true, ltb-true, eqb-true, eqb-false, eq-eqb, ne-eqb, le-leb, lt-leb}
 use lib.Dec.{leb, eqb}
 use lib.ListN.{length, getD}
 use Rattle.folds.proofs.Numbers.{and-both}
 use Rattle.board.specs.Layout as at
 use Rattle.board.specs.Layout.{word, boardWords, kindOf, blockOf}
 use Rattle.board.specs.Sound.{Between, Sound}
-use Rattle.ranges.specs.Ranges.{within, isZero, rangeIf, headerRanges, headerOk, taskRanges, taskOk, lengthOk, fetchOk, workOk}
+use Rattle.ranges.specs.Ranges.{within, isZero, testIf, rangeIf, headerRanges, headerOk, taskRanges, taskOk, lengthOk, fetchOk, workOk}
 use Rattle.ranges.proofs.Rows.{headerSpare, taskRow}
 use Rattle.refusals.specs.Refusals.{refuseUnless, firstBad, refuseFirst, _orElse_, refusalOf}
 use Rattle.refusals.specs.declared.Verdict.{Verdict}
@@ -26,11 +26,15 @@ within-true low high x e =
     let both = and-both (leb low x) (leb x high) e in
     (leb-true low x (both .0), leb-true x high (both .1))
 
-used : (t : Bool) (low high x : ℕ) → t ≡ true → rangeIf t low high x ≡ true → Between low high x
-used t low high x u e = within-true low high x (subst (λ (s : Bool). rangeIf s low high x ≡ true) u e)
+module _ (t : Bool) (test : ℕ → Bool) (x : ℕ) where
+  used-test : t ≡ true → testIf t test x ≡ true → test x ≡ true
+  used-test u e = subst (λ (s : Bool). testIf s test x ≡ true) u e
 
-unused : (t : Bool) (low high x : ℕ) → t ≡ false → rangeIf t low high x ≡ true → x ≡ 0
-unused t low high x u e = eqb-true x 0 (subst (λ (s : Bool). rangeIf s low high x ≡ true) u e)
+  unused : t ≡ false → testIf t test x ≡ true → x ≡ 0
+  unused u e = eqb-true x 0 (subst (λ (s : Bool). testIf s test x ≡ true) u e)
+
+used : (t : Bool) (low high x : ℕ) → t ≡ true → rangeIf t low high x ≡ true → Between low high x
+used t low high x u e = within-true low high x (used-test t (within low high) x u e)
 
 bounded : (t : Bool) (high x : ℕ) → rangeIf t 0 high x ≡ true → x ≤ high
 bounded true high x e = within-true 0 high x e .1
@@ -106,7 +110,7 @@ module _ (b : List ℕ) (e : refusalOf b ≡ Passed) where
   header : (i : ℕ) → i < 20 → headerOk b i ≡ true
   header i l = refuseFirst-passed 2 (headerOk b) 0 20 (rows .1) i (omega arith) l
 
-  spare-word : (i : ℕ) → 15 ≤ i → i < 20 → word b i ≡ 0
+  spare-word : (i : ℕ) → 16 ≤ i → i < 20 → word b i ≡ 0
   spare-word i l u = eqb-true _ 0 (headerSpare b i l ∙ header i u)
 
   -- field f of task k passes its test
@@ -132,23 +136,25 @@ module _ (b : List ℕ) (e : refusalOf b ≡ Passed) where
     memory = within-true 0 2 _ (header 4 (omega arith)) .1;
     bus = within-true 0 4 _ (header 5 (omega arith)) .1;
     slots = λ h. used (leb 3 (at.bus b)) 1 8 _ (le-leb 3 _ h) (header 6 (omega arith));
-    noSlots = λ h. unused (leb 3 (at.bus b)) 1 8 _ (lt-leb 3 _ h) (header 6 (omega arith));
+    noSlots = λ h. unused (leb 3 (at.bus b)) (within 1 8) _ (lt-leb 3 _ h) (header 6 (omega arith));
     access = within-true 1 255 _ (header 7 (omega arith));
     refresh = within-true 0 2 _ (header 8 (omega arith)) .1;
     interval = λ h. used (leb 1 (at.refresh b)) 1 at.longest _ (le-leb 1 _ h) (header 9 (omega arith));
     rows = λ h. used (leb 1 (at.refresh b)) 1 at.mostRefreshRows _ (le-leb 1 _ h) (header 10 (omega arith));
     refreshCycles = bounded (leb 1 (at.refresh b)) 255 _ (header 11 (omega arith));
     noRefresh = λ h. (
-      unused (leb 1 (at.refresh b)) 1 at.longest _ (lt-leb 1 _ h) (header 9 (omega arith)),
-      unused (leb 1 (at.refresh b)) 1 at.mostRefreshRows _ (lt-leb 1 _ h) (header 10 (omega arith)),
-      unused (leb 1 (at.refresh b)) 0 255 _ (lt-leb 1 _ h) (header 11 (omega arith)),
+      unused (leb 1 (at.refresh b)) (within 1 at.longest) _ (lt-leb 1 _ h) (header 9 (omega arith)),
+      unused (leb 1 (at.refresh b)) (within 1 at.mostRefreshRows) _ (lt-leb 1 _ h) (header 10 (omega arith)),
+      unused (leb 1 (at.refresh b)) (within 0 255) _ (lt-leb 1 _ h) (header 11 (omega arith)),
     );
     limit = leb-true 1 _ (header 12 (omega arith));
     held = λ m. held-code _ (word b 13) m (header 13 (omega arith));
     heldData = bounded (eqb (at.memory b) 1) at.firstDataBlock _ (header 14 (omega arith));
     sets = λ m. cache-sets _ (word b 13) m (header 13 (omega arith));
     noMemory = λ m. no-memory _ (word b 13) m (header 13 (omega arith));
-    noHeldData = λ h. unused (eqb (at.memory b) 1) 0 at.firstDataBlock _ (ne-eqb _ 1 h) (header 14 (omega arith));
+    noHeldData = λ h. unused (eqb (at.memory b) 1) (within 0 at.firstDataBlock) _ (ne-eqb _ 1 h) (header 14 (omega arith));
+    ways = λ m. used-test (eqb (at.memory b) 2) at.isWays (word b 15) (eq-eqb _ 2 m) (header 15 (omega arith));
+    noWays = λ h. unused (eqb (at.memory b) 2) at.isWays (word b 15) (ne-eqb _ 2 h) (header 15 (omega arith));
     spare = spare-word;
     core = λ k l. within-true 1 (at.cores b) _ (field k 0 l (omega arith));
     period = λ k l. within-true 1 at.longest _ (field k 1 l (omega arith));

@@ -63,7 +63,7 @@ module _ {b : List ℕ} {n : ℕ} {w₀ w₁ sets : List ℕ} (room : Room b n w
         words = rw size (room .words);
         fits = λ i k row column.
             let task : k < at.tasks b = omega (arith, room .tasks) in
-            omega (arith, demands i k row column, γ-bound b i k, taskMD-bound b (room .sound) k task);
+            omega (arith, demands i k row column, γ-bound b (room .sound) i k, taskMD-bound b (room .sound) k task);
       }
 
   pub prepared : {w₂ : List ℕ} → Added n n w₁ w₂ → (Prepared b n w₂) × (length w₂ ≡ length w₀) × (Held b n n w₂ sets)

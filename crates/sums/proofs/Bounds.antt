@@ -26,10 +26,10 @@ use Rattle.sums.proofs.Rising.{carry-mono}
 pub where-bound : (n l m : ℕ) (test : ℕ → Bool) (f : ℕ → ℕ) → n ≤ l → ((k : ℕ) → k < n → f k ≤ m) → sumWhere test f n ≤ l * m
 where-bound n l m test f h all = le-trans (sumWhere-bound test f n m all) (mul-le-mul h (le-refl m))
 
--- D'(j, k): MD of 1,024 instructions, and the reloads of 256 sets
+-- D'(j, k): MD of 1,024 instructions, and the reloads of 256 sets of eight ways
 pub demand-bound : (b : List ℕ) → Sound b → (j k : ℕ) → k < tasks b → memoryDemand b j k ≤ mostDemand
 unfolding memoryDemand
-demand-bound b s j k h = omega (arith, taskMD-bound b s k h, γ-bound b j k)
+demand-bound b s j k h = omega (arith, taskMD-bound b s k h, γ-bound b s j k)
 
 pub work-bound : (b : List ℕ) → Sound b → (k : ℕ) → k < tasks b → taskPD b k ≤ mostWork
 work-bound b s k h = omega (arith, taskPD-bound b s k h)

@@ -28,7 +28,7 @@ latestTime = longest + 1
 abbrev pub mostWork : ℕ
 mostWork = 2 ^ 22
 
--- D': MD of 1,024 instructions, and the reloads of 256 sets
+-- D': MD of 1,024 instructions, and the reloads of 256 sets of eight ways
 abbrev pub mostDemand : ℕ
 mostDemand = 2 ^ 12
 

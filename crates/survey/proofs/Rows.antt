@@ -1,7 +1,7 @@
 -- Laws of a row of overheads, raised trace by trace and task by task.
 -- Assumes nothing.
 use Prim.Native.Nat.{ℕ, _+_, _≤_, _<_, max}
-use mathlib.Core.Bool.{Bool, false, true, _&&_}
+use mathlib.Core.Bool.{Bool, _&&_}
 use mathlib.Core.List.{List}
 use mathlib.Core.Logic.{⊎-elim}
 use mathlib.Core.Path.{_≡_, refl, sym, ap, _∙_}
@@ -12,7 +12,7 @@ use borrow.Author.Tests.{lt-ltb, le-ltb}
 use Rattle.folds.specs.Folds.{onlyIf, maxTo}
 use Rattle.folds.proofs.Numbers.{le-or-lt}
 use Rattle.folds.proofs.Folds.{maxTo-none, maxTo-next}
-use Rattle.folds.proofs.Lists.{length-fillTo, fillTo-below, fillTo-from, fillTo-is, fillTo-cong}
+use Rattle.folds.proofs.Lists.{length-fillTo, fillTo-below, fillTo-from}
 use Rattle.folds.proofs.Loops.{maxTo-turn}
 use Rattle.board.specs.Layout.{core, traceCount}
 use Rattle.trace.specs.Traces.{mostUseful}
@@ -20,20 +20,7 @@ use Rattle.figures.specs.Figures.{taskTrace}
 use Rattle.figures.specs.Overhead.{evictedBy, reloads, γ}
 use Rattle.figures.specs.Rows.{onCoreOf, raised}
 use Rattle.figures.proofs.Overhead.{reloadsBelow}
-use Rattle.figures.proofs.Rows.{onlyIf-zero, raised-none}
-
--- raised twice
-pub raised-both : (f g : ℕ → ℕ) (i : ℕ) (row : List ℕ) → raised g i (raised f i row) ≡ raised (λ j. max (f j) (g j)) i row
-raised-both f g i row =
-    let once : ℕ → ℕ = λ j. max (getD row j 0) (f j) in
-    let twice : ℕ → ℕ = λ j. max (getD (raised f i row) j 0) (g j) in
-    fillTo-is (λ j. max (getD row j 0) (max (f j) (g j))) row 0 i (raised g i (raised f i row)) (length-fillTo twice (raised f i row) i ∙ length-fillTo once row i)
-    (λ j l w. omega (arith, fillTo-below twice (raised f i row) 0 i j l (omega (arith, length-fillTo once row i)), fillTo-below once row 0 i j l w))
-    (λ j l. fillTo-from twice (raised f i row) 0 i j l ∙ fillTo-from once row 0 i j l)
-
-onlyIf-max : (test : Bool) (x y : ℕ) → max (onlyIf test x) (onlyIf test y) ≡ onlyIf test (max x y)
-onlyIf-max true x y = refl
-onlyIf-max false x y = refl
+use Rattle.figures.proofs.Rows.{onlyIf-zero, raised-none, raised-more}
 
 -- what the first r traces of task i add, and one trace more
 module _ (b : List ℕ) (i : ℕ) where
@@ -47,12 +34,8 @@ module _ (b : List ℕ) (i : ℕ) where
       → next ≡ raised (onCoreOf b i (λ j. mostUseful (taskTrace b i r) (evictedBy b j))) i out
       → next ≡ raised (addedBy (r + 1)) i row
   added-turn r row out next e q =
-      let more : ℕ → ℕ = onCoreOf b i (λ j. mostUseful (taskTrace b i r) (evictedBy b j)) in
-      q ∙ ap (raised more i) e ∙ raised-both (addedBy r) more i row
-      ∙ fillTo-cong _ _ row i
-      (λ j l. ap (max (getD row j 0))
-      (onlyIf-max (eqb (core b i) (core b j)) _ _
-      ∙ ap (onlyIf (eqb (core b i) (core b j))) (sym (maxTo-next (λ q. mostUseful (taskTrace b i q) (evictedBy b j)) r))))
+      raised-more b i (λ j. maxTo (λ q. mostUseful (taskTrace b i q) (evictedBy b j)) r) _ _ row out next e q
+      (λ j. sym (maxTo-next (λ q. mostUseful (taskTrace b i q) (evictedBy b j)) r))
 
   pub added-all : (row : List ℕ) → raised (addedBy (traceCount b i)) i row ≡ raised (onCoreOf b i (λ j. reloads b j i)) i row
   unfolding reloads

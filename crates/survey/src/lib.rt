@@ -7,21 +7,21 @@ use figures::row;
 use folds::index;
 use folds::larger;
 use folds::words::copy_at;
+use scan::scan_trace;
 use trace::cursor;
 use trace::cursor::Cursor;
-use trace::demand::Demand;
 ghost use mathlib.Core.Path.{_≡_};
-ghost use mathlib.Core.Bool.{true, _||_};
+ghost use mathlib.Core.Bool.{true};
 ghost use Prim.Native.Nat.{ℕ, _+_, _*_, _<_, _≤_};
 ghost use lib.ListN.{length};
-ghost use Rattle.bitset.specs.Bits.{member, wordsOf};
+ghost use Rattle.bitset.specs.Bits.{wordsOf};
 ghost use Rattle.board.specs.Layout.{tasks, scratchWords};
 ghost use Rattle.board.specs.Sound.{Sound};
-ghost use Rattle.trace.specs.Starts.{Starts, At};
-ghost use Rattle.trace.specs.Traces.{traceOf, tracePD, traceMD, evicts, mostUseful};
+ghost use Rattle.entries.specs.Marks.{AllEarlier, baseOf};
+ghost use Rattle.trace.specs.Starts.{At};
 ghost use Rattle.figures.specs.Ready.{Ready};
 ghost use Rattle.figures.specs.Figures.{taskPD, taskMD, evicting};
-ghost use Rattle.figures.specs.Overhead.{evictedBy, reloads, γ};
+ghost use Rattle.figures.specs.Overhead.{reloads, γ};
 ghost use Rattle.figures.specs.Rows.{Evicting, Evicted, Cores, onCoreOf, raised};
 ghost use Rattle.figures.specs.Survey.{Held, Overheads, Written};
 
@@ -37,8 +37,9 @@ pub fn survey(board: &[u32], count: usize, rows: bool, words: &mut [u32], sets: 
     let mut cores = [0u64; 36];
     let mut evicted = [0u64; 256];
     let mut row = [0u32; 64];
+    let mut held = [0u64; 2048];
     let mut marks = [0u32; 2048];
-    let mut lives = [0u64; 4096];
+    let mut lives = [0u64; 2048];
     let mut at = cursor::first(board);
     let mut i: usize = 0;
     while i < count {
@@ -49,6 +50,7 @@ pub fn survey(board: &[u32], count: usize, rows: bool, words: &mut [u32], sets: 
             rows,
             &evicted,
             &mut row,
+            &mut held,
             &mut marks,
             &mut lives,
         );
@@ -80,21 +82,25 @@ struct Task {
     next: Cursor,
 }
 
-// The figures of task i, whose first trace is `first`. With `rows` the row is raised by what the task adds to γ(i, j) of each higher task j on its core.
+// The figures of task i, whose first trace is `first`. With `rows` the row is raised by what the task adds to γ(i, j) of each higher task j on its core; `ecbs`
+// has the sets that each of those evicts.
 fn survey_task(
     board: &[u32],
     i: usize,
     first: Cursor,
     rows: bool,
-    evicted: &[u64; 256],
+    ecbs: &[u64; 256],
     row: &mut [u32; 64],
+    held: &mut [u64; 2048],
     marks: &mut [u32; 2048],
-    lives: &mut [u64; 4096],
+    lives: &mut [u64; 2048],
 ) -> Task
-    requires { ⌜ (Ready (now board) i) × (At (now board) i 0 (first .trace) (first .start)) × (Evicted (now board) i (now evicted)) ⌝ }
+    requires { ⌜ (Ready (now board) i) × (At (now board) i 0 (first .trace) (first .start)) × (Evicted (now board) i (now ecbs))
+        × (AllEarlier (baseOf (first .trace)) (now held)) ⌝ }
     ensures { λ r. ⌜ (r .pd ≡ taskPD (now (board .entry)) i) × (r .md ≡ taskMD (now (board .entry)) i) × (r .ecb ≡ wordsOf (evicting (now (board .entry)) i))
         × (At (now (board .entry)) (i + 1) 0 (r .next .trace) (r .next .start))
-        × (rows ≡ true → now (row .exit) ≡ raised (onCoreOf (now (board .entry)) i (λ (j : ℕ). reloads (now (board .entry)) j i)) i (now (row .entry))) ⌝ }
+        × (rows ≡ true → now (row .exit) ≡ raised (onCoreOf (now (board .entry)) i (λ (j : ℕ). reloads (now (board .entry)) j i)) i (now (row .entry)))
+        × (AllEarlier (baseOf (r .next .trace)) (now (held .exit))) ⌝ }
 {
     let count = fields::trace_count(board, i);
     let mut at = first;
@@ -103,7 +109,7 @@ fn survey_task(
     let mut ecb = bitset::empty();
     let mut r: u32 = 0;
     while r < count {
-        let found = survey_trace(board, i, at, rows, evicted, &mut ecb, row, marks, lives);
+        let found = scan_trace(board, i, at, rows, ecbs, &mut ecb, row, held, marks, lives);
         pd = larger(pd, found.pd);
         md = larger(md, found.md);
         at = cursor::next(board, at);
@@ -115,36 +121,6 @@ fn survey_task(
         ecb,
         next: at,
     }
-}
-
-// PD and MD of one trace of task i. Its evicting cache blocks are added to `ecb` and, with `rows`, the row is raised by its useful sets.
-fn survey_trace(
-    board: &[u32],
-    i: usize,
-    at: Cursor,
-    rows: bool,
-    evicted: &[u64; 256],
-    ecb: &mut [u64; 4],
-    row: &mut [u32; 64],
-    marks: &mut [u32; 2048],
-    lives: &mut [u64; 4096],
-) -> Demand
-    requires { ⌜ (Ready (now board) i) × (Starts (now board) (at .trace) (at .start)) × (Evicted (now board) i (now evicted)) ⌝ }
-    ensures { λ r. ⌜ (r .pd ≡ tracePD (traceOf (now (board .entry)) (at .trace))) × (r .md ≡ traceMD (traceOf (now (board .entry)) (at .trace)))
-        × (now (ecb .exit) ≡ wordsOf (λ (s : ℕ). member (now (ecb .entry)) s || evicts (traceOf (now (board .entry)) (at .trace)) s))
-        × (rows ≡ true → now (row .exit) ≡ raised (onCoreOf (now (board .entry)) i
-        (λ (j : ℕ). mostUseful (traceOf (now (board .entry)) (at .trace)) (evictedBy (now (board .entry)) j))) i (now (row .entry))) ⌝ }
-{
-    let len = index(fields::trace_length(board, at.trace));
-    let found = useful::scan_trace(board, at.start, len, ecb, marks, lives);
-    let demand = Demand {
-        pd: found.pd,
-        md: found.md,
-    };
-    if rows {
-        row::raise(board, i, evicted, lives, found.records, row);
-    }
-    demand
 }
 
 // Keeps the ECB of task i as record i of `sets`, and joined with those before it on its core as record i of `evicted`.

@@ -8,11 +8,13 @@ use mathlib.Core.Path.{_≡_}
 use borrow.Author.Tests.{ne-eqb}
 use lib.Dec.{leb, eqb}
 use lib.ListN.{length}
+use mathlib.Core.List.{[]}
 use Rattle.folds.specs.Folds.{onlyIf, sumTo, countTo}
 use Rattle.folds.proofs.Folds.{sumTo-bound, sumTo-mono, countTo-bound}
 use Rattle.folds.proofs.Numbers.{onlyIf-mono, onlyIf-bound, onlyIf-and}
-use Rattle.board.specs.Layout.{memory, cyclesOf, heldCode, heldData, cacheSets, kindOf, firstDataBlock}
-use Rattle.trace.specs.Cache.{misses, missCount}
+use Rattle.board.specs.Layout.{memory, cyclesOf, heldCode, heldData, ways, kindOf, firstDataBlock}
+use Rattle.lru.proofs.Useful.{misses-bound}
+use Rattle.trace.specs.Cache.{placeOf}
 use Rattle.trace.specs.Traces.{Trace, fetch, work, reads, writes, dataBlock, allLoads, tracePD, busLoads, traceMD}
 use Rattle.trace.proofs.Counts.{loads-count}
 
@@ -43,12 +45,12 @@ module _ (t : Trace) where
       sumTo-mono _ _ (t .len) (λ p h. rw (onlyIf-and (reads t p) (leb high (dataBlock t p)) 1) (onlyIf-mono (reads t p) (λ e. onlyIf-bound (leb high (dataBlock t p)) (omega arith))))
 
   busLoads-bound : (m : ℕ) → busLoads t m ≤ t .len + countTo (reads t) (t .len)
-  unfolding busLoads missCount
+  unfolding busLoads
   busLoads-bound zero = loads-bound
   busLoads-bound (suc zero) =
       omega (arith, countTo-bound (λ p. leb (heldCode (t .words)) (fetch t p)) (t .len), held-bound (firstDataBlock + heldData (t .words)))
   busLoads-bound (suc (suc m)) =
-      omega (arith, countTo-bound (misses (cacheSets (t .words)) (allLoads t)) (length (allLoads t)), loads-bound)
+      omega (arith, misses-bound (placeOf (t .words)) (ways (t .words)) [] (allLoads t), loads-bound)
 
   -- a fetch and at most one data access an instruction
   pub traceMD-bound : traceMD t ≤ 2 * t .len

@@ -1,6 +1,6 @@
 -- The bus accesses of a trace, instruction by instruction, are its memory demand.
 -- Assumes nothing.
-use Prim.Native.Nat.{ℕ, zero, suc, _+_, _*_, _≤_, _<_, zero-le}
+use Prim.Native.Nat.{ℕ, zero, suc, _+_, _-_, _*_, _≤_, _<_, zero-le}
 use mathlib.Core.Bool.{Bool, true, false, cond, _&&_}
 use mathlib.Core.List.{[], _∷_}
 use mathlib.Core.Path.{_≡_, refl, sym, ap, ap₂, _∙_}
@@ -12,11 +12,15 @@ use lib.Dec.{leb}
 use lib.ListN.{length, length-append}
 use Rattle.folds.specs.Folds.{onlyIf, sumTo, countTo}
 use Rattle.folds.proofs.Folds.{sumTo-add, countTo-none, countTo-next, countTo-cong}
-use Rattle.board.specs.Layout.{memory, heldCode, heldData, cacheSets, kindOf, blockOf, firstDataBlock}
-use Rattle.trace.specs.Traces.{Trace, fetch, work, reads, writes, dataBlock, loadsBy, loads, busLoads, traceMD}
-use Rattle.trace.specs.Slots.{loadAt, slotMisses, accesses}
+use Rattle.board.specs.Layout.{memory, heldCode, heldData, ways, kindOf, blockOf, firstDataBlock}
+use Rattle.trace.specs.Traces.{Trace, fetch, work, reads, writes, dataBlock, loadsBy, loads, allLoads, busLoads, traceMD}
+use Rattle.lru.specs.Recency.{missCount}
+use Rattle.lru.specs.Slots.{slotMisses}
+use Rattle.lru.proofs.Slots.{misses-slots}
+use Rattle.trace.specs.Cache.{placeOf}
+use Rattle.trace.specs.Slots.{loadAt, accesses}
 use Rattle.trace.proofs.Loads.{loadsBefore-next}
-use Rattle.trace.proofs.Slots.{misses-slots}
+use Rattle.trace.proofs.Slots.{after-loads}
 
 module _ (t : Trace) where
   -- each instruction loads its block, and its data block where it reads
@@ -96,8 +100,17 @@ module _ (t : Trace) where
       go p h (yes k) = rw (eq-eqb (kindOf (work t p)) 1 k) (le-leb firstDataBlock (dataBlock t p) (known p h (omega arith)))
       go p h (no k) = rw (ne-eqb (kindOf (work t p)) 1 k)
 
-  -- memory 2
-  pub traceMD-cached : memory (t .words) ≡ 2
-      → countTo (slotMisses (loadAt t) (cacheSets (t .words))) (2 * t .len) + countTo (writes t) (t .len) ≡ traceMD t
+  -- memory 2 and 3
+  pub traceMD-cached : 2 ≤ memory (t .words)
+      → countTo (slotMisses (placeOf (t .words)) (ways (t .words)) (loadAt t)) (2 * t .len) + countTo (writes t) (t .len) ≡ traceMD t
   unfolding busLoads
-  traceMD-cached e = ap (λ (k : ℕ). k + countTo (writes t) (t .len)) (misses-slots t (cacheSets (t .words))) ∙ md-is 2 e
+  traceMD-cached h =
+      let count : busLoads t (suc (suc (memory (t .words) - 2))) ≡ missCount (placeOf (t .words)) (ways (t .words)) [] (allLoads t) = loads-cached (memory (t .words) - 2) in
+      let kind : memory (t .words) ≡ suc (suc (memory (t .words) - 2)) = omega arith in
+      ap (λ (k : ℕ). k + countTo (writes t) (t .len))
+      (misses-slots (placeOf (t .words)) (ways (t .words)) (loadAt t) (2 * t .len)
+      ∙ ap (missCount (placeOf (t .words)) (ways (t .words)) []) (after-loads t 0 (t .len)) ∙ sym count)
+      ∙ md-is (suc (suc (memory (t .words) - 2))) kind
+    where
+      loads-cached : (m : ℕ) → busLoads t (suc (suc m)) ≡ missCount (placeOf (t .words)) (ways (t .words)) [] (allLoads t)
+      loads-cached m = refl

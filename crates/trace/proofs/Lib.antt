@@ -5,10 +5,11 @@ pub mod Loads
 pub mod Slots
 pub mod Sets
 pub mod Counts
-pub mod Scans
 pub mod Bounds
 pub mod Touched
 pub mod Accessor
 pub mod Above
 pub mod Instructions
 pub mod Reciprocal
+pub mod OneWay
+pub mod Useful

@@ -1,4 +1,4 @@
--- The laws that join the records and the code's scans to the definitions.
-pub mod Passing
+-- The laws of the numbers from slot to slot, and of the points that are recorded.
+pub mod Slots
 pub mod Recording
 pub mod Points

@@ -1,61 +1,79 @@
--- The largest number over the records of a trace is the largest over its points.
+-- The scan over the points of a batch: for any numbers that the marks move, what is recorded and the present point stand for all points passed.
 -- Assumes nothing.
-use Prim.Native.Nat.{ℕ, _≤_, _<_}
-use mathlib.Core.Path.{_≡_, refl, ap, _∙_}
-use mathlib.Core.Bool.{Bool, true, false, _&&_, false≢true}
+use Prim.Native.Nat.{ℕ, _+_, _*_, _≤_, _<_, max}
+use mathlib.Core.Bool.{Bool, true, false, not, _&&_, _||_, or-true, false≢true}
 use mathlib.Core.List.{List}
-use mathlib.Core.Logic.{⊎-elim}
-use native.Mathlib.Nat.{le-antisymm, le-trans, le-of-eq}
+use mathlib.Core.Path.{_≡_, refl, sym, ap, subst, _∙_}
 use native.Mathlib.Omega.{arith}
-use Rattle.folds.specs.Folds.{maxTo, countTo}
-use Rattle.folds.proofs.Folds.{maxTo-part, none-or-some, maxTo-bound, countTo-zero, countTo-cong, countTo-subset}
-use Rattle.bitset.specs.Bits.{member}
-use Rattle.bitset.specs.Records.{recordAt, mostCommon}
-use Rattle.bitset.proofs.Sets.{member-wordsOf}
-use Rattle.trace.specs.Traces.{Trace, useful, usefulAt, mostUseful}
-use Rattle.useful.specs.Recorded.{Recorded}
+use lib.ListN.{getD}
+use Rattle.folds.specs.Folds.{onlyIf, sumWhere, maxTo}
+use Rattle.folds.specs.Stored.{Stored}
+use Rattle.folds.proofs.Numbers.{onlyIf-bound}
+use Rattle.folds.proofs.Folds.{sumTo-cong, sumWhere-bound}
+use Rattle.counts.specs.Planes.{countOf}
+use Rattle.counts.specs.Records.{mostCommon}
+use Rattle.counts.proofs.Buffers.{mostCommon-none, mostCommon-stored}
+use Rattle.useful.specs.Recorded.{Turning, Shown, atPoint}
+use Rattle.useful.proofs.Slots.{Neither, point-keeps, point-adds}
+use Rattle.useful.proofs.Recording.{Standing, standing-start, standing-turn, standing-end}
 
-and-subset : (a b c : Bool) → (a ≡ true → b ≡ true) → (a && c) ≡ true → (b && c) ≡ true
-and-subset true b c f e = rw (f refl) e
-and-subset false b c f e = absurd (false≢true e)
+-- the largest count of the points before `from` and of the first m records
+abbrev most : (ℕ → ℕ → ℕ) → ℕ → ℕ → List ℕ → ℕ → (ℕ → Bool) → ℕ
+most f from planes lives m test = max (maxTo (atPoint f test) from) (mostCommon lives planes planes m test)
 
-and-left : (a c : Bool) → (a && c) ≡ true → a ≡ true
-and-left true c e = refl
-and-left false c e = e
+-- at point p, with m records; `fresh` is whether it is still to be recorded
+pub record Scanned (f : ℕ → ℕ → ℕ) (from end planes : ℕ) (lives : List ℕ) (m : ℕ) (fresh : Bool) (p : ℕ) : Type 0 where
+  pub standing : (test : ℕ → Bool) → Standing (atPoint f test) (most f from planes lives m test) fresh p
+  pub all : p ≡ end → (test : ℕ → Bool) → most f from planes lives m test ≡ maxTo (atPoint f test) p
 
-module _ (t : Trace) (lives : List ℕ) (m : ℕ) (all : Recorded t lives m) (test : ℕ → Bool) where
-  -- what a record has in common with the test
-  abbrev common : ℕ → ℕ
-  common q = countTo (λ s. member (recordAt lives q) s && test s) 256
-
-  record-is : (q : ℕ) → q < m → common q ≤ mostUseful t test
-  unfolding mostUseful usefulAt
-  record-is q h =
-      let at = all .point q h in
-      let same : common q ≡ usefulAt t test (at .0) =
-      countTo-cong (λ s. member (recordAt lives q) s && test s) (λ s. useful t (at .0) s && test s) 256
-      (λ s l. ap (λ (u : Bool). u && test s) (ap (λ (w : List ℕ). member w s) (at .2) ∙ member-wordsOf (useful t (at .0)) s l)) in
-      le-trans (le-of-eq same) (maxTo-part (usefulAt t test) (t .len) (at .0) (at .1))
-
-  point-is : (p : ℕ) → p < t .len → usefulAt t test p ≤ maxTo common m
-  unfolding usefulAt
-  point-is p h = ⊎-elim none some (none-or-some (λ s. useful t p s && test s) 256)
+module _ (f : ℕ → ℕ → ℕ) (from end planes : ℕ) where
+  pub scan-start : (lives : List ℕ) (fresh : Bool) → (fresh ≡ false → (s : ℕ) → s < 256 → f (2 * from) s ≡ 0) → Scanned f from end planes lives 0 fresh from
+  scan-start lives fresh none = record {
+    standing = λ test. standing-start (atPoint f test) from _ fresh (only test)
+        (λ e. omega (arith, sumWhere-bound test (f (2 * from)) 256 0 (λ s h. omega (arith, none e s h))));
+    all = λ e test. only test;
+  }
     where
-      none : ((s : ℕ) → s < 256 → (useful t p s && test s) ≡ false) → usefulAt t test p ≤ maxTo common m
-      none never = omega (arith, countTo-zero (λ s. useful t p s && test s) 256 never)
+      only : (test : ℕ → Bool) → most f from planes lives 0 test ≡ maxTo (atPoint f test) from
+      only test = omega (arith, mostCommon-none lives planes planes test)
 
-      some : (s : ℕ) × (s < 256) × ((useful t p s && test s) ≡ true) → usefulAt t test p ≤ maxTo common m
-      some one =
-          let in-record = all .cover p (one .0) h (one .1) (and-left (useful t p (one .0)) (test (one .0)) (one .2)) in
-          le-trans
-          (countTo-subset (λ s. useful t p s && test s) (λ s. member (recordAt lives (in-record .0)) s && test s) 256
-          (λ s l. and-subset (useful t p s) (member (recordAt lives (in-record .0)) s) (test s) (in-record .2 s l)))
-          (maxTo-part common m (in-record .0) (in-record .1))
+  -- one turn of the code: `lost` wherever a block is lost or the points end, and `came` wherever a number grows
+  module _ (marks : List ℕ) (turning : Turning f marks (2 * end)) (live lives lives' : List ℕ) (m m' p : ℕ) (fresh lost came : Bool) (l : p < end)
+      (shown : Shown f (2 * p) planes live) where
+    pub scan-turn : (fresh' : Bool) → Stored (λ k. getD live k 0) (4 * (m * planes)) (onlyIf (fresh && lost) (4 * planes)) lives lives'
+        → m' ≡ m + onlyIf (fresh && lost) 1 → fresh' ≡ ((fresh && not lost) || came)
+        → (lost ≡ false → Neither marks p 2) → (p + 1 ≡ end → lost ≡ true) → (came ≡ false → Neither marks p 1)
+        → Scanned f from end planes lives m fresh p → Scanned f from end planes lives' m' fresh' (p + 1)
+    scan-turn fresh' stored e e' keeps ends adds so-far = record {
+      standing = λ test.
+          subst (λ (t : Bool). Standing (atPoint f test) (most f from planes lives' m' test) t (p + 1)) (sym e')
+          (standing-turn (atPoint f test) p _ _ fresh lost came (more test)
+          (λ q. point-keeps f marks (2 * end) planes turning p (omega arith) test (keeps q))
+          (λ q. point-adds f marks (2 * end) planes turning p (omega arith) test (adds q)) (so-far .standing test));
+      all = λ q test. standing-end (atPoint f test) p _ _ fresh lost (more test) (ends q) (so-far .standing test);
+    }
+      where
+        here : (test : ℕ → Bool) → sumWhere test (countOf live 0 planes) 256 ≡ atPoint f test p
+        here test = sumTo-cong _ _ 256 (λ s h. ap (onlyIf (test s)) (shown s h))
 
-  -- the largest over the records is the largest over the points
-  pub mostCommon-is : mostCommon lives m test ≡ mostUseful t test
-  unfolding mostCommon mostUseful
-  mostCommon-is =
-      le-antisymm
-      (maxTo-bound common m (mostUseful t test) record-is)
-      (maxTo-bound (usefulAt t test) (t .len) (maxTo common m) point-is)
+        more : (test : ℕ → Bool) → most f from planes lives' m' test ≡ max (most f from planes lives m test) (onlyIf (fresh && lost) (atPoint f test p))
+        more test =
+            omega (
+              arith,
+              ap (λ (k : ℕ). mostCommon lives' planes planes k test) e,
+              mostCommon-stored planes m live lives lives' (fresh && lost) test stored,
+              ap (onlyIf (fresh && lost)) (here test),
+            )
+
+-- ---- tests of the code
+
+pub neither : (a b : Bool) → (a || b) ≡ false → (a ≡ false) × (b ≡ false)
+neither true b e = absurd (false≢true (sym e))
+neither false b e = (refl, e)
+
+pub or-last : (a : Bool) {b : Bool} → b ≡ true → (a || b) ≡ true
+or-last a e = ap (λ (t : Bool). a || t) e ∙ or-true a
+
+-- at most one record more
+pub one-more : (m : ℕ) {m' : ℕ} (t : Bool) → m' ≡ m + onlyIf t 1 → m' ≤ m + 1
+one-more m t e = omega (arith, onlyIf-bound t {a = 1} {m = 1} (omega arith))

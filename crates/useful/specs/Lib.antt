@@ -1,2 +1,2 @@
--- The useful sets of a trace at its points, as the code finds them and hands them over.
+-- The numbers of useful blocks from slot to slot, and their records.
 pub mod Recorded

@@ -1,20 +1,31 @@
--- For the code: the useful sets of a trace at some of its points, as records of a lent buffer, which stand for all of them.
+-- For the code: the numbers of useful blocks from slot to slot, as the marks of a trace say, and how the code keeps those of one slot. Point p stands before
+-- slot 2p; slots 2p and 2p + 1 belong to instruction p.
 -- Assumes nothing.
-use Prim.Native.Nat.{ℕ, _≤_, _<_}
-use mathlib.Core.Path.{_≡_}
-use mathlib.Core.Bool.{Bool, true}
+use Prim.Native.Nat.{ℕ, suc, _+_, _*_, _≤_, _<_}
+use mathlib.Core.Bool.{Bool}
 use mathlib.Core.List.{List}
-use Rattle.bitset.specs.Bits.{member, wordsOf}
-use Rattle.bitset.specs.Records.{recordAt}
-use Rattle.trace.specs.Traces.{Trace, useful}
+use mathlib.Core.Path.{_≡_}
+use lib.ListN.{getD}
+use Rattle.folds.specs.Folds.{sumWhere}
+use Rattle.counts.specs.Planes.{countOf, largest}
+use Rattle.counts.specs.Turns.{adds, takes}
 
--- every number below 256 that passes the first test passes the second
-abbrev pub Subset : (ℕ → Bool) → (ℕ → Bool) → Type 0
-Subset test test' = (s : ℕ) → s < 256 → test s ≡ true → test' s ≡ true
+-- the numbers f e s before slot e of set s change as the first n marks say
+abbrev pub Turning : (ℕ → ℕ → ℕ) → List ℕ → ℕ → Type 0
+Turning f marks n = (e s : ℕ) → e < n → s < 256 → f (suc e) s + takes (getD marks e 0) s ≡ f e s + adds (getD marks e 0) s
 
--- the first m records stand for the points of a trace: each holds the useful sets of a point, and each point that has a useful set has a
--- record that holds all of its useful sets
-pub record Recorded (t : Trace) (lives : List ℕ) (m : ℕ) : Type 0 where
-  pub few : m ≤ t .len
-  pub point : (q : ℕ) → q < m → (p : ℕ) × (p < t .len) × (recordAt lives q ≡ wordsOf (useful t p))
-  pub cover : (p s : ℕ) → p < t .len → s < 256 → useful t p s ≡ true → (q : ℕ) × (q < m) × Subset (useful t p) (member (recordAt lives q))
+-- the words have the numbers before slot e
+abbrev pub Shown : (ℕ → ℕ → ℕ) → ℕ → ℕ → List ℕ → Type 0
+Shown f e planes live = (s : ℕ) → s < 256 → countOf live 0 planes s ≡ f e s
+
+-- how many blocks are useful at point p in the sets that pass the test
+abbrev pub atPoint : (ℕ → ℕ → ℕ) → (ℕ → Bool) → ℕ → ℕ
+atPoint f test p = sumWhere test (f (2 * p)) 256
+
+-- there are such numbers, which the planes have room for: so no step of the code overflows
+pub record Tallied (marks : List ℕ) (n planes e : ℕ) (live : List ℕ) : Type 0 where
+  pub f : ℕ → ℕ → ℕ
+  pub turning : Turning f marks n
+  pub few : (e s : ℕ) → e ≤ n → s < 256 → f e s ≤ largest planes
+  pub small : (e : ℕ) → e < n → getD marks e 0 < 1024
+  pub shown : Shown f e planes live

@@ -1,114 +1,69 @@
-// The memory demand, the evicting cache blocks and the useful sets of a trace, in two scans: backwards over its instructions, and forwards over
-// the marks that the first scan made of its loads.
-mod slots;
-
-use bitset::records::write_if;
-use board::fields::memory;
-use marks::mark_trace;
-use slots::ends;
-use slots::pass_slot;
-use trace::cache::cache_of;
-use trace::demand;
+// The scan of a trace over its marks: the numbers of useful blocks at its points, some of which are recorded and stand for all of them.
+use counts::pass_mark;
+use counts::records::write_if;
 ghost use mathlib.Core.Path.{_≡_};
-ghost use mathlib.Core.Bool.{_||_};
-ghost use Prim.Native.Nat.{ℕ, _*_, _≤_};
+ghost use mathlib.Core.Bool.{Bool, true, false};
+ghost use Prim.Native.Nat.{ℕ, _+_, _-_, _*_, _%_, _≤_, _<_, max};
 ghost use lib.ListN.{length};
-ghost use Rattle.board.specs.Layout as at;
-ghost use Rattle.board.specs.Sound.{Sound};
-ghost use Rattle.bitset.specs.Bits.{member, wordsOf};
-ghost use Rattle.trace.specs.Traces.{tracePD, traceMD, evicts};
-ghost use Rattle.trace.specs.Places.{traceAt, Lies};
-ghost use Rattle.useful.specs.Recorded.{Recorded};
+ghost use Rattle.folds.specs.Folds.{maxTo};
+ghost use Rattle.counts.specs.Records.{mostCommon};
+ghost use Rattle.useful.specs.Recorded.{Turning, Shown, atPoint, Tallied};
 
-// What a scan of a trace found: PD, MD, and the number of points recorded.
-pub struct Scanned {
-    pub pd: u32,
-    pub md: u32,
-    pub records: usize,
-}
-
-// PD and MD of a trace; its evicting cache blocks are added to `ecb`, and the useful sets of some of its points recorded in `lives`, four words a
-// record, so that every point's useful sets are among those of a recorded point. Without a cache nothing is evicted or useful.
-pub fn scan_trace(
-    board: &[u32],
-    start: usize,
-    len: usize,
-    ecb: &mut [u64],
-    marks: &mut [u32],
+// Records the useful blocks of the points from .. end - 1: whatever sets are counted, the largest number of a record and of the points before is that of
+// all points before `end`. A point is recorded where a number grew since the last record and the next point loses a block, or the points end; `fresh`
+// is whether the point `from` is still to be recorded. `live` has the numbers of that point, and then those of the point `end`. The number of records.
+pub fn record_points(
+    marks: &[u32],
+    from: usize,
+    end: usize,
+    planes: usize,
+    fresh: bool,
+    live: &mut [u64],
     lives: &mut [u64],
-) -> Scanned
-    requires { ⌜ (Sound (now board)) × (Lies (now board) start len) × (length (now ecb) ≡ 4)
-        × (2 * len ≤ length (now marks)) × (4 * len ≤ length (now lives)) ⌝ }
-    ensures { λ r. ⌜ (r .md ≡ traceMD (traceAt (now (board .entry)) start len))
-        × (Recorded (traceAt (now (board .entry)) start len) (now (lives .exit)) (r .records))
-        × (now (ecb .exit) ≡ wordsOf (λ (s : ℕ). member (now (ecb .entry)) s || evicts (traceAt (now (board .entry)) start len) s))
-        × (length (now (marks .exit)) ≡ length (now (marks .entry))) × (length (now (lives .exit)) ≡ length (now (lives .entry)))
-        × (r .pd ≡ tracePD (traceAt (now (board .entry)) start len)) ⌝ }
+) -> usize
+    requires { ⌜ (Tallied (now marks) (2 * end) planes (2 * from) (now live)) × (from ≤ end) × (end ≤ 1024) × (2 * end ≤ length (now marks))
+        × (1 ≤ planes) × (planes ≤ 4) × (4 * planes ≤ length (now live)) × (4 * ((end - from) * planes) ≤ length (now lives)) ⌝ }
+    ensures { λ r. ⌜ (r ≤ end - from)
+        × ((f : ℕ → ℕ → ℕ) → Turning f (now (marks .entry)) (2 * end) → Shown f (2 * from) planes (now (live .entry))
+        → (fresh ≡ false → (s : ℕ) → s < 256 → f (2 * from) s ≡ 0)
+        → (Shown f (2 * end) planes (now (live .exit)))
+        × ((test : ℕ → Bool) → max (maxTo (atPoint f test) from) (mostCommon (now (lives .exit)) planes planes r test) ≡ maxTo (atPoint f test) end))
+        × (length (now (live .exit)) ≡ length (now (live .entry))) × (length (now (lives .exit)) ≡ length (now (lives .entry))) ⌝ }
 {
-    let kind = memory(board);
-    match kind {
-        2 => {
-            let loads = under_cache(board, start, len, ecb, marks, lives);
-            Scanned {
-                pd: demand::pd(board, start, len),
-                md: loads.md,
-                records: loads.records,
-            }
-        }
-        _ => {
-            let demand = demand::uncached(board, start, len);
-            Scanned {
-                pd: demand.pd,
-                md: demand.md,
-                records: 0,
-            }
-        }
-    }
-}
-
-// What the scans under a cache found: MD, and the number of points recorded.
-struct CacheScan {
-    md: u32,
-    records: usize,
-}
-
-// The same with a cache, but for PD. A point is recorded where a set came up since the last record and the next point loses one.
-fn under_cache(
-    board: &[u32],
-    start: usize,
-    len: usize,
-    ecb: &mut [u64],
-    marks: &mut [u32],
-    lives: &mut [u64],
-) -> CacheScan
-    requires { ⌜ (Sound (now board)) × (Lies (now board) start len) × (length (now ecb) ≡ 4)
-        × (2 * len ≤ length (now marks)) × (4 * len ≤ length (now lives)) ⌝ }
-    requires { ⌜ at.memory (now board) ≡ 2 ⌝ }
-    ensures { λ r. ⌜ (r .md ≡ traceMD (traceAt (now (board .entry)) start len))
-        × (Recorded (traceAt (now (board .entry)) start len) (now (lives .exit)) (r .records))
-        × (now (ecb .exit) ≡ wordsOf (λ (s : ℕ). member (now (ecb .entry)) s || evicts (traceAt (now (board .entry)) start len) s))
-        × (length (now (marks .exit)) ≡ length (now (marks .entry))) × (length (now (lives .exit)) ≡ length (now (lives .entry))) ⌝ }
-{
-    let writes = mark_trace(board, start, len, cache_of(board), ecb, marks);
-    let mut live = bitset::empty();
-    let mut missed: u32 = 0;
-    let mut fresh = false;
     let mut m: usize = 0;
-    let mut p: usize = 0;
-    while p < len {
+    let mut fresh = fresh;
+    let mut p = from;
+    while p < end {
         let x = marks[2 * p];
         let y = marks[2 * p + 1];
-        let lost = ends(&live, x) | ends(&live, y);
-        m = write_if(fresh & lost, lives, m, live);
-        let fetched = pass_slot(&mut live, x);
-        let read = pass_slot(&mut live, y);
-        missed += fetched.missed + read.missed;
-        let came = fetched.came | read.came;
-        fresh = fresh & !lost | came;
+        let lost = loses(x, y) | is_last(p, end);
+        m = write_if(fresh & lost, lives, m, planes, live);
+        pass_mark(live, planes, x);
+        pass_mark(live, planes, y);
+        fresh = fresh & !lost | gains(x, y);
         p += 1;
     }
-    CacheScan {
-        md: writes + missed,
-        records: m,
-    }
+    m
+}
+
+// Whether one of the two marks of an instruction takes a block from its set.
+fn loses(x: u32, y: u32) -> bool
+    ensures { λ r. ⌜ (r ≡ false → (x % 4 ≡ 2 → ⊥) × (y % 4 ≡ 2 → ⊥)) ⌝ }
+{
+    (x % 4 == 2) | (y % 4 == 2)
+}
+
+// Whether one of them adds a block to its set.
+fn gains(x: u32, y: u32) -> bool
+    ensures { λ r. ⌜ (r ≡ false → (x % 4 ≡ 1 → ⊥) × (y % 4 ≡ 1 → ⊥)) ⌝ }
+{
+    (x % 4 == 1) | (y % 4 == 1)
+}
+
+// Whether the points end after p.
+fn is_last(p: usize, end: usize) -> bool
+    requires { ⌜ p < 1024 ⌝ }
+    ensures { λ r. ⌜ (p + 1 ≡ end → r ≡ true) ⌝ }
+{
+    p + 1 == end
 }

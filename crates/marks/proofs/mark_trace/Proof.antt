@@ -1,125 +1,189 @@
--- `marks::mark_trace` meets its contract. The invariant: the slots of the instructions from p on have their marks, and the writes and the
--- touched sets of those before p are still to be added.
+-- `marks::mark_trace` meets its contract. The invariant: the slots of the instructions before p have their marks, and their accesses and touched
+-- sets are in.
 -- Assumes nothing.
 use borrow.Author.Needs.{needs}
-use Prim.Native.Nat.{ℕ, _+_, _-_, _*_, _≤_}
-use mathlib.Core.Path.{_≡_, refl, sym, ap, subst, _∙_}
+use Prim.Native.Nat.{ℕ, _+_, _-_, _*_, _≤_, _<_}
+use mathlib.Core.Path.{_≡_, refl, sym, ap, ap₂, subst, _∙_}
 use native.Mathlib.Omega.{arith}
 use denote.Ref.{now}
-use lib.Dec.{eqb}
 use lib.ListN.{length}
-use Rattle.folds.specs.Folds.{onlyIf, countTo}
-use Rattle.folds.proofs.Folds.{countTo-none, countTo-next, countTo-bound}
-use Rattle.bitset.specs.Bits.{member, wordsOf}
-use Rattle.bitset.proofs.Sets.{wordsOf-length, words-ext}
-use Rattle.board.specs.Layout.{kindOf}
+use Rattle.folds.specs.Folds.{countTo}
+use Rattle.folds.proofs.Folds.{countTo-none, countTo-bound}
+use Rattle.bitset.proofs.Sets.{wordsOf-length}
+use Rattle.board.specs.Layout.{ways}
+use Rattle.entries.specs.Marks.{Marked}
+use Rattle.trace.specs.Cache.{placeOf}
 use Rattle.trace.specs.Traces.{Trace, writes}
 use Rattle.trace.specs.Places.{traceAt}
 use Rattle.trace.specs.Slots.{loadAt, touches}
+use Rattle.trace.proofs.Counts.{traceMD-cached}
 use Rattle.trace.proofs.Places.{fetch-bound, kind-bound}
-use Rattle.marks.specs.Marks.{Marked}
-use Rattle.marks.proofs.Evicting.{words-whole, left, left-turn, left-end, touches-parts}
-use Rattle.marks.proofs.Marking.{Scanned, scan-end, scan-turn}
+use Rattle.marks.proofs.Evicting.{added, added-none, added-turn}
+use Rattle.marks.proofs.Turns.{ScannedTo, misses, scan-start, touches-parts, turn-scan, turn-count, evict-words}
 use Rattle.marks.proofs.mark_trace.Statement.{statement}
 use Rattle.marks.proofs.mark_trace.Tie as tie
 
 abbrev Inv : tie.InvT-loop
-Inv board start len cache ecb₀ marks₀ first₀ n₀ p₀ ecb marks first n p =
-    (p ≤ len) × (n + countTo (writes (traceAt board start len)) p ≡ countTo (writes (traceAt board start len)) len) × (length marks ≡ length marks₀)
-    × (ecb ≡ wordsOf (member ecb)) × (left (touches (traceAt board start len) (cache .sets)) ecb p ≡ left (touches (traceAt board start len) (cache .sets)) ecb₀ len)
-    × Scanned (loadAt (traceAt board start len)) (cache .sets) (2 * len) marks first (2 * p)
+Inv board start len base held₀ ecb₀ marks₀ cache ways n₀ p₀ held ecb marks n p =
+    (p ≤ len) × (n ≡ countTo (misses (traceAt board start len) ways) (2 * p) + countTo (writes (traceAt board start len)) p)
+    × (length held ≡ length held₀) × (ecb ≡ added (touches (traceAt board start len) (placeOf board)) ecb₀ p)
+    × ScannedTo (traceAt board start len) ways base held marks p × (length marks ≡ length marks₀)
 
 abbrev μ : tie.MeasureT-loop
-μ board start len cache ecb₀ marks₀ first₀ n₀ p₀ ecb marks first n p = p
+μ board start len base held₀ ecb₀ marks₀ cache ways n₀ p₀ held ecb marks n p = len - p
+
+-- the trace, its cache and its ways, wherever the loop stands
+module _ (c : tie.After-index Inv μ) where
+  abbrev top : tie.Start Inv μ
+  top = c .before .before .before .before .before .before .before
+
+  abbrev trace : Trace
+  trace = traceAt (now (top .args .board)) (top .args .start) (top .args .len)
+
+  abbrev cached : tie.After-cache-of Inv μ
+  cached = c .before .before
+
+  way : c .index .result ≡ ways (trace .words)
+  way = c .index .ensures .0 ∙ c .before .ways .ensures .0
+
+  few : c .index .result ≤ 8
+  few = omega (arith, c .index .ensures .0, c .before .ways .ensures .1)
 
 holds : tie.Need-loop-holds Inv μ
 holds c =
-    let top = c .before .before .before in (
-      search needs,
+    let start = top c in
+    let a = start .args in
+    let t : Trace = trace c in
+    let cache = cached c .cache-of in (
       omega arith,
+      omega (arith, countTo-none (misses t (c .index .result)), countTo-none (writes t)),
       refl,
-      words-ext _ _ (top .pre .3) (c .before .slice-known .given) (λ s h. refl),
+      added-none (touches t (placeOf (now (a .board)))) (now (a .ecb)) (start .pre .6) (c .before .before .before .before .slice-known2 .given),
+      scan-start t (c .index .result) (cache .result .sets) (a .base) (cache .ensures .0) (cache .ensures .1 .some) (cache .ensures .1 .few) (now (a .held)) (now (a .marks))
+          (start .pre .5) (few c) (start .pre .7) (start .pre .4),
       refl,
-      scan-end _ _ _ (now (top .args .marks)) (top .pre .4) (top .pre .2 .few),
     )
-
-data-requires : tie.Need-mark-data-requires Inv μ
-data-requires c κs =
-    let worked = c .before .before .before in
-    let at = worked .before .before in
-    let top = at .before .before .before .before in (
-      top .pre .2,
-      omega (arith, kind-bound _ _ _ (top .pre .0) (top .pre .1) (at .loop .p - 1) (omega arith)),
-      ap length (at .loop .inv .3) ∙ wordsOf-length _,
-      omega (arith, at .loop .inv .5 .0),
-    )
-
-add-n : tie.Need-add-n Inv μ
-add-n c =
-    let accessed = c .before .before .before .before in
-    let at = accessed .before .before .before .before .before .before in
-    let a = at .before .before .before .before .args in
-    omega (arith, at .loop .inv .1, countTo-bound (writes (traceAt (now (a .board)) (a .start) (a .len))) (a .len))
 
 load-requires : tie.Need-mark-load-requires Inv μ
 load-requires c κs =
-    let fetched = c .before .before .before in
-    let accessed = fetched .before .before .before .before .before in
-    let turn = accessed .before .before .before .before .before in
-    let at = turn .before in
-    let top = at .before .before .before .before in (
-      top .pre .2,
-      omega (arith, fetch-bound _ _ _ (top .pre .0) (top .pre .1) (at .loop .p - 1) (omega (arith, turn .loop-test .taken, at .loop .inv .0))),
-      ap length (accessed .mark-data .ensures .2) ∙ wordsOf-length _,
-      omega (arith, at .loop .inv .5 .0, accessed .mark-data .kept .1 .1 .1 .1 .1 .0),
+    let at = c .before .before .before .before .before .before in
+    let start = top (at .before) in (
+      cached (at .before) .cache-of .ensures .1,
+      record {
+        low = start .pre .3;
+        few = few (at .before);
+        entries = omega (arith, at .loop .inv .2, start .pre .5);
+        slots = at .loop .inv .4 .1;
+      },
+      ap length (at .loop .inv .3) ∙ wordsOf-length _,
+      omega (arith, start .pre .1 .short),
+      omega (arith, fetch-bound _ _ _ (start .pre .0) (start .pre .1) (at .loop .p) (omega arith)),
     )
+
+-- the number of accesses is small
+small : (t : Trace) (w p : ℕ) → countTo (misses t w) (2 * p) + countTo (writes t) p ≤ 3 * p
+small t w p = omega (arith, countTo-bound (misses t w) (2 * p), countTo-bound (writes t) p)
+
+add-n : tie.Need-add-n Inv μ
+add-n c =
+    let loaded = c .before .before .before .before .before .before in
+    let at = loaded .before .before .before .before .before .before .before in
+    let start = top (at .before) in
+    omega (arith, at .loop .inv .1, small (trace (at .before)) (at .before .index .result) (at .loop .p), loaded .mark-load .ensures .4, start .pre .1 .short)
+
+data-requires : tie.Need-mark-data-requires Inv μ
+data-requires c κs =
+    let loaded = c .before .before .before .before .before .before .before .before .before in
+    let turn = loaded .before .before .before .before .before .before in
+    let at = turn .before in
+    let start = top (at .before) in
+    let kept = loaded .mark-load .kept in (
+      cached (at .before) .cache-of .ensures .1,
+      record {
+        low = start .pre .3;
+        few = few (at .before);
+        entries = omega (arith, kept .1 .1 .1 .1 .1 .0, at .loop .inv .2, start .pre .5);
+        slots = omega (arith, kept .1 .1 .1 .1 .1 .1 .1 .0, at .loop .inv .4 .1);
+      },
+      ap length (loaded .mark-load .ensures .3) ∙ wordsOf-length _,
+      omega (arith, turn .loop-test .taken, start .pre .1 .short),
+      omega (arith, loaded .before .before .before .before .work-word .ensures, kind-bound _ _ _ (start .pre .0) (start .pre .1) (at .loop .p) (turn .loop-test .taken)),
+    )
+
+add-n-2 : tie.Need-add-n-2 Inv μ
+add-n-2 c =
+    let accessed = c .before .before .before .before .before .before in
+    let loaded = accessed .before .before .before .before .before .before .before .before .before .before in
+    let turn = loaded .before .before .before .before .before .before in
+    let at = turn .before in
+    let start = top (at .before) in
+    omega (arith, at .loop .inv .1, small (trace (at .before)) (at .before .index .result) (at .loop .p), loaded .mark-load .ensures .4, accessed .mark-data .ensures .4, start .pre .1 .short, turn .loop-test .taken)
+
+-- the turn that a state after both accesses belongs to
+abbrev turn-of : tie.After-slice-known9 Inv μ → tie.In-loop Inv μ
+turn-of c = c .before .before .before .before .before .before .before .before .before .before .before .before .before .before .before .before .before .before .before .before .before .before
+
+add-p : tie.Need-add-p Inv μ
+add-p c = record { fits = omega (arith, turn-of c .loop-test .taken, top (turn-of c .before .before) .pre .1 .short) }
+
+less : tie.Need-loop-less Inv μ
+less c = omega (arith, turn-of c .loop-test .taken)
 
 again : tie.Need-loop-again Inv μ
 again c =
-    let loaded = c .before .before .before .before in
-    let fetched = loaded .before .before .before .before in
-    let accessed = fetched .before .before .before .before .before in
-    let worked = accessed .before .before .before .before in
-    let at = worked .before .before in
-    let top = at .before .before .before .before in
-    let a = top .args in
-    let t : Trace = traceAt (now (a .board)) (a .start) (a .len) in
-    let p = at .loop .p - 1 in
-    let next : at .loop .p ≡ p + 1 = omega arith in
-    let w = worked .work-word in
-    let block = fetched .fetch-word in
-    let touched = touches t (a .cache .sets) in
-    let written = accessed .mark-data .ensures .0 ∙ ap (λ (x : ℕ). onlyIf (eqb (kindOf x) 2) 1) (w .ensures) in (
+    let accessed = c .before .before .before .before .before .before in
+    let loaded = accessed .before .before .before .before .before .before .before .before .before .before in
+    let worked = loaded .before .before .before .before in
+    let turn = worked .before .before in
+    let at = turn .before in
+    let start = top (at .before) in
+    let a = start .args in
+    let t : Trace = trace (at .before) in
+    let cache = cached (at .before) .cache-of in
+    let sets = cache .result .sets in
+    let p = at .loop .p in
+    let block = worked .before .fetch-word in
+    let word = worked .work-word in
+    let less : p < a .len = turn .loop-test .taken in
+    let low : block .result < 65536 = omega (arith, block .ensures, fetch-bound _ _ _ (start .pre .0) (start .pre .1) p less) in
+    let short : 2 * p + 1 < 2048 = omega (arith, less, start .pre .1 .short) in
+    let w = at .before .index .result in
+    let is = loaded .mark-load .ensures in
+    let is' = accessed .mark-data .ensures in (
       omega arith,
-      omega (arith, at .loop .inv .1, ap (countTo (writes t)) next, countTo-next (writes t) p, written),
-      loaded .mark-load .kept .1 .1 .1 .1 .1 .0 ∙ accessed .mark-data .kept .1 .1 .1 .1 .1 .0 ∙ at .loop .inv .2,
-      words-whole _ _ (loaded .mark-load .ensures .1),
-      left-turn touched (at .loop .ecb) _ _ p _ _ (accessed .mark-data .ensures .2) (loaded .mark-load .ensures .1)
-          (λ s. touches-parts t (a .cache .sets) p (block .result) (w .result) s (block .ensures) (w .ensures))
-          ∙ ap (left touched (at .loop .ecb)) (sym next) ∙ at .loop .inv .4,
-      scan-turn t (a .cache .sets) (2 * a .len) (top .pre .2 .some) (top .pre .2 .few) p (at .loop .p) (w .result) (block .result) next (omega arith)
-          (w .ensures) (block .ensures) (at .loop .marks) _ _ (at .loop .first) _ _ (accessed .mark-data .ensures .1) (accessed .mark-data .ensures .3)
-          (loaded .mark-load .ensures .0) (loaded .mark-load .ensures .2) (at .loop .inv .5),
+      turn-count t w sets (a .base) (cache .ensures .0) (cache .ensures .1 .some) (cache .ensures .1 .few) p (block .result) (word .result) low short (block .ensures)
+          (word .ensures) (at .loop .held) _ _ (at .loop .marks) _ _ _ _ (is .1) (is .2) (is .0) (is' .1) (is' .2) (is' .0) (at .loop .inv .4) (at .loop .n) (at .loop .inv .1),
+      accessed .mark-data .kept .1 .1 .1 .1 .1 .0 ∙ loaded .mark-load .kept .1 .1 .1 .1 .1 .0 ∙ at .loop .inv .2,
+      added-turn (touches t (placeOf (now (a .board)))) (now (a .ecb)) (at .loop .ecb) _ _ p _ _ (at .loop .inv .3) (is .3) (is' .3)
+          (touches-parts t w sets (a .base) (cache .ensures .0) (cache .ensures .1 .some) (cache .ensures .1 .few) p (block .result) (word .result) low short
+          (block .ensures) (word .ensures)),
+      turn-scan t w sets (a .base) (cache .ensures .0) (cache .ensures .1 .some) (cache .ensures .1 .few) p (block .result) (word .result) low short (block .ensures)
+          (word .ensures) (at .loop .held) _ _ (at .loop .marks) _ _ _ _ (is .1) (is .2) (is .0) (is' .1) (is' .2) (is' .0) (at .loop .inv .4),
+      accessed .mark-data .kept .1 .1 .1 .1 .1 .1 .1 .0 ∙ loaded .mark-load .kept .1 .1 .1 .1 .1 .1 .1 .0 ∙ at .loop .inv .5,
     )
 
-ecb-length : tie.Need-same-length Inv μ
-ecb-length c = ap length (c .before .loop .inv .3) ∙ wordsOf-length _ ∙ sym (c .before .before .before .before .before .pre .3)
+ecb-length : tie.Need-same-length-2 Inv μ
+ecb-length c = ap length (c .before .loop .inv .3) ∙ wordsOf-length _ ∙ sym (top (c .before .before) .pre .6)
 
 returns : tie.Need-returns Inv μ
 returns c =
     let at = c .before in
-    let a = at .before .before .before .before .args in
-    let t : Trace = traceAt (now (a .board)) (a .start) (a .len) in
-    let end : at .loop .p ≡ 0 = omega arith in
-    let touched = touches t (a .cache .sets) in (
-      omega (arith, at .loop .inv .1, ap (countTo (writes t)) end, countTo-none (writes t)),
-      subst (λ (p : ℕ). Marked (loadAt t) (a .cache .sets) (2 * a .len) (at .loop .marks) (2 * p)) end (at .loop .inv .5 .3),
-      left-end touched (at .loop .ecb) (at .loop .inv .3) ∙ ap (left touched (at .loop .ecb)) (sym end) ∙ at .loop .inv .4,
-      at .loop .inv .2,
+    let start = top (at .before) in
+    let a = start .args in
+    let t : Trace = trace (at .before) in
+    let end : at .loop .p ≡ a .len = omega (arith, at .loop .inv .0, c .loop-test .left) in
+    let w = way (at .before) in (
+      at .loop .inv .1 ∙ ap₂ (λ (w p : ℕ). countTo (misses t w) (2 * p) + countTo (writes t) p) w end ∙ traceMD-cached t (omega (arith, start .pre .2)),
+      subst (λ (w : ℕ). Marked (placeOf (now (a .board))) w (loadAt t) (at .loop .marks) (2 * a .len)) w
+          (subst (λ (p : ℕ). Marked (placeOf (now (a .board))) (at .before .index .result) (loadAt t) (at .loop .marks) (2 * p)) end (at .loop .inv .4 .3)),
+      at .loop .inv .3 ∙ ap (added (touches t (placeOf (now (a .board)))) (now (a .ecb))) end
+          ∙ evict-words t (now (a .ecb)) (omega (arith, start .pre .2)) (kind-bound _ _ _ (start .pre .0) (start .pre .1)),
+      at .loop .inv .4 .4,
     )
 
 pub mark-trace-spec : {M : Type 1} → statement M
 mark-trace-spec =
     tie.close
-    (tie.spec Inv μ holds (λ c. search needs) (λ c κs. search needs) (λ c. search needs) (λ c. search needs) data-requires add-n (λ c κs. search needs)
-    (λ c. search needs) load-requires (λ c. search needs) again ecb-length (λ c. search needs) returns)
+    (tie.spec Inv μ (λ c κs. search needs) (λ c κs. search needs) (λ c κs. search needs) holds (λ c κs. search needs) (λ c κs. search needs)
+    (λ c. search needs) load-requires add-n (λ c. search needs) (λ c. search needs) data-requires add-n-2 add-p less
+    again (λ c. search needs) ecb-length (λ c. search needs) returns)

@@ -9,7 +9,9 @@ use native.Mathlib.Numerals.{add-one-le}
 use native.Mathlib.Omega.{arith}
 use borrow.Author.Needs.{needs}
 use lib.ListN.{length}
+use Rattle.folds.proofs.Lists.{getD-none}
 use Rattle.board.specs.Layout.{tasks}
+use Rattle.entries.specs.Marks.{AllEarlier, baseOf}
 use Rattle.figures.specs.Ready.{Ready}
 use Rattle.trace.specs.Starts.{At}
 use Rattle.figures.specs.Rows.{Evicted, Cores}
@@ -22,12 +24,12 @@ use Rattle.survey.proofs.survey.Statement.{statement}
 use Rattle.survey.proofs.survey.Tie as tie
 
 abbrev Inv : tie.InvT-loop
-Inv b count rows words₀ sets₀ n cores₀ evicted₀ row₀ marks₀ lives₀ at₀ i₀ words sets cores evicted row marks lives at i =
+Inv b count rows words₀ sets₀ n cores₀ evicted₀ row₀ held₀ marks₀ lives₀ at₀ i₀ words sets cores evicted row held marks lives at i =
     (i ≤ count) × (length words ≡ length words₀) × At b i 0 (at .trace) (at .start) × Cores b i cores × Evicted b i evicted × Held b n i words sets
-    × (rows ≡ true → Row b i row × Overheads b n i words)
+    × (rows ≡ true → Row b i row × Overheads b n i words) × AllEarlier (baseOf (at .trace)) held
 
 abbrev μ : tie.MeasureT-loop
-μ b count rows words₀ sets₀ n cores₀ evicted₀ row₀ marks₀ lives₀ at₀ i₀ words sets cores evicted row marks lives at i = count - i
+μ b count rows words₀ sets₀ n cores₀ evicted₀ row₀ held₀ marks₀ lives₀ at₀ i₀ words sets cores evicted row held marks lives at i = count - i
 
 holds : tie.Need-loop-holds Inv μ
 holds c =
@@ -39,7 +41,8 @@ holds c =
       cores-none b,
       λ j l. absurd (not-suc-le-zero l),
       held-none b _ _ _,
-      λ wanted. (row-none b, λ i j h l. absurd (not-suc-le-zero h)),
+      (λ wanted. (row-none b, λ i j h l. absurd (not-suc-le-zero h))),
+      λ j. omega (arith, getD-none {A = ℕ} 2048 j 0),
     )
 
 -- n is the number of tasks
@@ -60,19 +63,20 @@ below c = omega (arith, ready c .task, size (c .before))
 
 asks : tie.Need-survey-task-requires Inv μ
 asks c κs =
-    let turn = c .before .before .before .before in
-    (ready turn, turn .before .loop .inv .2, turn .before .loop .inv .4)
+    let turn = c .before .before .before .before .before in
+    let inv = turn .before .loop .inv in
+    (ready turn, inv .2, inv .4, inv .7)
 
 keeps : tie.Need-keep-requires Inv μ
 keeps c κs =
     let task = c .before .before .before .before in
-    let turn = task .before .before .before .before .before in
+    let turn = task .before .before .before .before .before .before in
     let inv = turn .before .loop .inv in
     (ready turn, task .survey-task .ensures .2, inv .5 .ecb, inv .3, inv .4)
 
 stores : tie.Need-store-requires Inv μ
 stores c κs =
-    let turn = c .before .before .before .before .before .before .before .before .before .before .before .before in
+    let turn = c .before .before .before .before .before .before .before .before .before .before .before .before .before in
     let at = turn .before in
     let start = at .before .before .before .before .before .before in (
       below turn,
@@ -84,12 +88,12 @@ stores c κs =
 
 fits : tie.Need-add-i Inv μ
 fits c =
-    let turn = c .before .before .before .before .before .before .before .before .before .before .before .before .before .before .before .before in
+    let turn = c .before .before .before .before .before .before .before .before .before .before .before .before .before .before .before .before .before in
     omega (arith, below turn, few (turn .before))
 
 less : tie.Need-loop-less Inv μ
 less c =
-    let turn = c .before .before .before .before .before .before .before .before .before .before .before .before .before .before .before .before in
+    let turn = c .before .before .before .before .before .before .before .before .before .before .before .before .before .before .before .before .before in
     omega (arith, turn .loop-test .taken)
 
 again : tie.Need-loop-again Inv μ
@@ -97,7 +101,7 @@ again c =
     let store = c .before .before .before .store in
     let keep = c .before .before .before .before .before .before .keep in
     let task = c .before .before .before .before .before .before .before .before .before .before .before .survey-task in
-    let turn = c .before .before .before .before .before .before .before .before .before .before .before .before .before .before .before .before in
+    let turn = c .before .before .before .before .before .before .before .before .before .before .before .before .before .before .before .before .before in
     let at = turn .before in
     let start = at .before .before .before .before .before .before in
     let a = start .args in
@@ -109,9 +113,10 @@ again c =
       keep .ensures .1,
       keep .ensures .2,
       held-next b n (at .loop .i) _ _ (a .rows) _ _ _ (below turn) (store .ensures .0) _ _ (task .ensures .0) (task .ensures .1) (keep .ensures .0) (at .loop .inv .5),
-      λ wanted.
+      (λ wanted.
           let row = row-next b (at .loop .i) (at .loop .row) _ (at .loop .inv .6 wanted .0) (task .ensures .4 wanted) in
-          (row, overheads-next b n (at .loop .i) _ _ (a .rows) _ _ _ (below turn) (store .ensures .0) (few at) wanted row (at .loop .inv .6 wanted .1)),
+          (row, overheads-next b n (at .loop .i) _ _ (a .rows) _ _ _ (below turn) (store .ensures .0) (few at) wanted row (at .loop .inv .6 wanted .1))),
+      task .ensures .5,
     )
 
 returns : tie.Need-returns Inv μ

@@ -1,0 +1,2 @@
+-- The data access of an instruction.
+pub mod Accesses

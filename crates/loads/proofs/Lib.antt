@@ -1,0 +1,3 @@
+-- The laws of a load.
+pub mod Steps
+pub mod Single

@@ -1,0 +1,61 @@
+-- What the code does at a slot that loads, as the laws of marks have it.
+-- Assumes nothing.
+use Prim.Native.Nat.{ℕ, suc, _+_, _*_, _/_, _%_, _≤_, _<_, max}
+use mathlib.Core.Bool.{Bool, false, cond}
+use mathlib.Core.List.{List}
+use mathlib.Core.Path.{_≡_, sym, ap, ap₂, _∙_}
+use native.Mathlib.Nat.{mul-le-mul, suc-mul}
+use native.Mathlib.Omega.{arith}
+use borrow.Author.Tests.{eq-eqb, ne-eqb}
+use lib.Bits.{bitOr, or-step, or-zero-r}
+use lib.Dec.{eqb}
+use lib.ListN.{set}
+use Rattle.folds.specs.Folds.{onlyIf}
+use Rattle.entries.specs.Entries.{found, shifted}
+use Rattle.entries.specs.Marks.{markMiss, markHit, markLoad, slotHeld, slotMarks, slotMissed}
+
+-- the entries of a set lie among 2048 words
+pub entries-fit : (s ways : ℕ) → s < 256 → ways ≤ 8 → s * ways + ways ≤ 2048
+entries-fit s ways h k =
+    let most : suc s * ways ≤ 256 * 8 = mul-le-mul {n₂ = 256} h k in
+    omega (arith, most, suc-mul s ways)
+
+-- the lowest bit set
+pub or-one : (v : ℕ) → bitOr v 1 ≡ v / 2 * 2 + 1
+or-one v = or-step v 1 ∙ (let low : max (v % 2) 1 ≡ 1 = omega arith in ap₂ (λ (x y : ℕ). x * 2 + y) (or-zero-r (v / 2)) low)
+
+-- a slot that loads x
+module _ (base ways s x e : ℕ) (array marks : List ℕ) (load : x ≡ 0 → ⊥) where
+  loads : eqb x 0 ≡ false
+  loads = ne-eqb x 0 load
+
+  pub load-held : shifted (base + x) ((base + x) * 2048 + e) array (s * ways) ways ≡ slotHeld base ways s x e array
+  unfolding slotHeld
+  load-held = sym (ap (λ (t : Bool). cond t array (shifted (base + x) ((base + x) * 2048 + e) array (s * ways) ways)) loads)
+
+  module _ (last : ℕ) (known : last ≡ found (base + x) array (s * ways) ways) where
+    marks-is : markLoad marks e s last ≡ slotMarks base ways s x e array marks
+    unfolding slotMarks
+    marks-is =
+        ap (markLoad marks e s) known
+        ∙ sym (ap (λ (t : Bool). cond t (set marks e 0) (markLoad marks e s (found (base + x) array (s * ways) ways))) loads)
+
+    missed-is : onlyIf (eqb last 0) 1 ≡ slotMissed base ways s x array
+    unfolding slotMissed
+    missed-is =
+        ap (λ (y : ℕ). onlyIf (eqb y 0) 1) known
+        ∙ sym (ap (λ (t : Bool). cond t 0 (onlyIf (eqb (found (base + x) array (s * ways) ways) 0) 1)) loads)
+
+    pub load-missed : last ≡ 0 → (1 ≡ slotMissed base ways s x array) × (markMiss marks e s ≡ slotMarks base ways s x e array marks)
+    unfolding markLoad
+    load-missed z = (
+      sym (ap (λ (t : Bool). onlyIf t 1) (eq-eqb last 0 z)) ∙ missed-is,
+      sym (ap (λ (t : Bool). cond t (markMiss marks e s) (markHit marks e s last)) (eq-eqb last 0 z)) ∙ marks-is,
+    )
+
+    pub load-hit : (last ≡ 0 → ⊥) → (0 ≡ slotMissed base ways s x array) × (markHit marks e s last ≡ slotMarks base ways s x e array marks)
+    unfolding markLoad
+    load-hit n = (
+      sym (ap (λ (t : Bool). onlyIf t 1) (ne-eqb last 0 n)) ∙ missed-is,
+      sym (ap (λ (t : Bool). cond t (markMiss marks e s) (markHit marks e s last)) (ne-eqb last 0 n)) ∙ marks-is,
+    )

@@ -1,0 +1,2 @@
+-- The buffers that a load works in.
+pub mod Room

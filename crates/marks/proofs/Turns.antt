@@ -1,0 +1,138 @@
+-- One turn of the scan: the fetch of an instruction, then its data access.
+-- Assumes nothing.
+use Prim.Native.Nat.{ℕ, suc, _+_, _*_, _≤_, _<_}
+use mathlib.Core.Bool.{Bool, cond, not, _&&_, _||_}
+use mathlib.Core.List.{List, map}
+use mathlib.Core.Path.{_≡_, sym, ap, ap₂, subst, _∙_}
+use native.Mathlib.Decide.{ℕ-discrete}
+use native.Mathlib.Nat.{mod-lt}
+use native.Mathlib.Numerals.{add-one}
+use native.Mathlib.Omega.{arith}
+use lib.Dec.{eqb}
+use lib.ListN.{length}
+use Rattle.folds.specs.Folds.{onlyIf, countTo, anyTo}
+use Rattle.folds.proofs.Folds.{countTo-next}
+use Rattle.bitset.specs.Bits.{member, wordsOf}
+use Rattle.bitset.proofs.Sets.{wordsOf-cong}
+use Rattle.board.specs.Layout.{memory, cacheSets, kindOf, blockOf}
+use Rattle.lru.specs.Recency.{recent}
+use Rattle.lru.specs.Slots.{slotMisses}
+use Rattle.lru.proofs.Slots.{before-none}
+use Rattle.lru.proofs.Recent.{recent-none}
+use Rattle.entries.specs.Marks.{slotHeld, slotMarks, slotMissed, Are, entryOf, AllEarlier}
+use Rattle.entries.proofs.Lines.{are-empty}
+use Rattle.entries.proofs.Marking.{Scanned, scan-slot}
+use Rattle.trace.specs.Cache.{setOf, placeOf}
+use Rattle.trace.specs.Traces.{Trace, fetch, work, reads, writes, dataBlock, evicts}
+use Rattle.trace.specs.Slots.{loadAt, touches}
+use Rattle.trace.proofs.Sets.{place-is}
+use Rattle.trace.proofs.Slots.{fetch-slot, read-slot}
+use Rattle.trace.proofs.Touched.{evicts-is}
+use Rattle.accesses.specs.Accesses.{readSlot, dataTouches}
+use Rattle.accesses.proofs.Steps.{read-none, read-load, read-small}
+
+-- with w ways: the slots of the instructions before p are scanned, and the loads that miss
+abbrev pub ScannedTo : Trace → ℕ → ℕ → List ℕ → List ℕ → ℕ → Type 0
+ScannedTo t w base array marks p = Scanned (placeOf (t .words)) w (loadAt t) base 256 array marks (2 * p)
+
+abbrev pub misses : Trace → ℕ → ℕ → Bool
+misses t w = slotMisses (placeOf (t .words)) w (loadAt t)
+
+module _ (t : Trace) (w c base : ℕ) (sets : c ≡ cacheSets (t .words)) (some : 1 ≤ c) (few : c ≤ 256) where
+  abbrev place : ℕ → ℕ
+  place = placeOf (t .words)
+
+  place-set : (m : ℕ) → setOf c m ≡ place m
+  place-set m = ap (λ (k : ℕ). setOf k m) sets ∙ sym (place-is (t .words) m)
+
+  low : (m : ℕ) → setOf c m < 256
+  low m = omega (arith, few, mod-lt m some)
+
+  -- before the first slot nothing is held
+  pub scan-start : (array marks : List ℕ) → 2048 ≤ length array → w ≤ 8 → 2048 ≤ length marks → AllEarlier base array → ScannedTo t w base array marks 0
+  scan-start array marks room small long all = (
+    omega arith,
+    long,
+    (λ s h. subst (λ (ms : List ℕ). Are base array (s * w) w (map (entryOf base (loadAt t) 0) ms))
+        (sym (ap (recent place s) (before-none (loadAt t)) ∙ recent-none place s)) (are-empty base array (s * w) w all)),
+    (λ i h. absurd (omega arith)),
+    (λ j. omega (arith, all j)),
+  )
+
+  module _ (p block word : ℕ) (small : block < 65536) (short : 2 * p + 1 < 2048) (eb : block ≡ fetch t p) (ew : word ≡ work t p) where
+    fetch-is : block + 1 ≡ loadAt t (2 * p)
+    fetch-is = ap (λ (m : ℕ). m + 1) eb ∙ add-one (fetch t p) ∙ sym (fetch-slot t p)
+
+    read-is : readSlot word ≡ loadAt t (suc (2 * p))
+    unfolding readSlot
+    read-is = ap readSlot ew ∙ ap (λ (m : ℕ). cond (reads t p) m 0) (add-one (dataBlock t p)) ∙ sym (read-slot t p)
+
+    fetch-own : (m : ℕ) → block + 1 ≡ suc m → setOf c block ≡ place m
+    fetch-own m q = place-set block ∙ ap place (omega (arith, q))
+
+    read-own : (m : ℕ) → readSlot word ≡ suc m → setOf c (blockOf word) ≡ place m
+    read-own m q = go (ℕ-discrete (kindOf word) 1)
+      where
+        go : Dec (kindOf word ≡ 1) → setOf c (blockOf word) ≡ place m
+        go (yes k) = place-set (blockOf word) ∙ ap place (let z : blockOf word + 1 ≡ suc m = read-load word k ∙ q in omega (arith, z))
+        go (no n) = absurd (let z : 0 ≡ suc m = sym (read-none word n) ∙ q in omega (arith, z))
+
+    -- the sets that the instruction touches, in two parts
+    pub touches-parts : (s : ℕ) → (eqb (setOf c block) s || dataTouches c word s) ≡ touches t place p s
+    unfolding touches
+    touches-parts s =
+        ap₂ (λ (x y : ℕ). eqb x s || (not (eqb (kindOf word) 0) && eqb y s)) (place-set block) (place-set (blockOf word))
+        ∙ ap₂ (λ (x y : ℕ). eqb (place x) s || (not (eqb (kindOf y) 0) && eqb (place (blockOf y)) s)) eb ew
+
+    module _ (array array' array'' marks marks' marks'' : List ℕ) (r r' : ℕ)
+        (f : array' ≡ slotHeld base w (setOf c block) (block + 1) (2 * p) array)
+        (g : marks' ≡ slotMarks base w (setOf c block) (block + 1) (2 * p) array marks)
+        (n : r ≡ slotMissed base w (setOf c block) (block + 1) array)
+        (f' : array'' ≡ slotHeld base w (setOf c (blockOf word)) (readSlot word) (2 * p + 1) array')
+        (g' : marks'' ≡ slotMarks base w (setOf c (blockOf word)) (readSlot word) (2 * p + 1) array' marks')
+        (n' : r' ≡ slotMissed base w (setOf c (blockOf word)) (readSlot word) array' + onlyIf (eqb (kindOf word) 2) 1)
+        (so-far : ScannedTo t w base array marks p) where
+      abbrev At : List ℕ → List ℕ → ℕ → Type 0
+      At = Scanned place w (loadAt t) base 256
+
+      fetched : At array' marks' (suc (2 * p)) × (r ≡ onlyIf (misses t w (2 * p)) 1)
+      fetched =
+          let so = scan-slot place w (loadAt t) base 256 (2 * p) (setOf c block) array marks (omega arith) (low block) so-far (block + 1) fetch-is (omega arith) fetch-own in
+          (rw (f, g) (so .0), n ∙ so .1)
+
+      accessed : At array'' marks'' (suc (suc (2 * p))) × (r' ≡ onlyIf (misses t w (suc (2 * p))) 1 + onlyIf (eqb (kindOf word) 2) 1)
+      accessed =
+          let next : 2 * p + 1 ≡ suc (2 * p) = add-one (2 * p) in
+          let so = scan-slot place w (loadAt t) base 256 (suc (2 * p)) (setOf c (blockOf word)) array' marks' (omega arith) (low (blockOf word)) (fetched .0) (readSlot word) read-is (read-small word) read-own in (
+            rw (
+              f' ∙ ap (λ (e : ℕ). slotHeld base w (setOf c (blockOf word)) (readSlot word) e array') next,
+              g' ∙ ap (λ (e : ℕ). slotMarks base w (setOf c (blockOf word)) (readSlot word) e array' marks') next,
+            ) (so .0),
+            n' ∙ ap (λ (k : ℕ). k + onlyIf (eqb (kindOf word) 2) 1) (so .1),
+          )
+
+      twice : suc (suc (2 * p)) ≡ 2 * (p + 1)
+      twice = omega arith
+
+      pub turn-scan : ScannedTo t w base array'' marks'' (p + 1)
+      turn-scan = subst (At array'' marks'') twice (accessed .0)
+
+      pub turn-count : (k : ℕ) → k ≡ countTo (misses t w) (2 * p) + countTo (writes t) p → k + r + r' ≡ countTo (misses t w) (2 * (p + 1)) + countTo (writes t) (p + 1)
+      turn-count k e =
+          omega (
+            arith,
+            e,
+            fetched .1,
+            accessed .1,
+            ap (λ (x : ℕ). onlyIf (eqb (kindOf x) 2) 1) ew,
+            countTo-next (misses t w) (2 * p),
+            ap (countTo (misses t w)) (add-one (2 * p)),
+            countTo-next (misses t w) (suc (2 * p)),
+            countTo-next (writes t) p,
+            ap (countTo (misses t w)) (add-one (suc (2 * p)) ∙ twice),
+          )
+
+-- the whole trace
+pub evict-words : (t : Trace) (out : List ℕ) → 2 ≤ memory (t .words) → ((p : ℕ) → p < t .len → kindOf (work t p) ≤ 2)
+    → wordsOf (λ s. member out s || anyTo (λ p. touches t (placeOf (t .words)) p s) (t .len)) ≡ wordsOf (λ s. member out s || evicts t s)
+evict-words t out cached kinds = wordsOf-cong _ _ (λ s h. ap (λ (u : Bool). member out s || u) (evicts-is t s cached kinds))

@@ -1,2 +1,0 @@
--- The marks of a trace's slots.
-pub mod Marks

@@ -1,0 +1,50 @@
+-- `scan::scan_trace` meets its contract.
+-- Assumes nothing.
+use Prim.Native.Nat.{_<_}
+use mathlib.Core.Path.{ap, _∙_}
+use denote.Ref.{now}
+use native.Mathlib.Omega.{arith}
+use borrow.Author.Needs.{needs}
+use lib.Arith.{lt-of-le-ne}
+use lib.Dec.{eqb}
+use Rattle.board.specs.Layout.{memory, core}
+use Rattle.trace.specs.Traces.{Trace, traceOf, tracePD, traceMD, evicts}
+use Rattle.trace.proofs.Sets.{evicts-plain, mostUseful-plain}
+use Rattle.trace.proofs.Starts.{starts-lies, starts-trace}
+use Rattle.accesses.proofs.Touched.{join-none}
+use Rattle.figures.specs.Overhead.{evictedBy}
+use Rattle.figures.proofs.Rows.{onlyIf-zero, raised-none}
+use Rattle.scan.proofs.scan_trace.Statement.{statement}
+use Rattle.scan.proofs.scan_trace.Tie as tie
+
+asks : tie.Need-uncached-requires
+asks c κs =
+    let start = c .before .before .before .before .before .before in
+    let known = c .index .ensures .0 ∙ c .before .trace-length .ensures .0 in
+    (start .pre .0 .sound, starts-lies _ _ _ (start .pre .1) _ known, omega (arith, start .pre .0 .sound .memory))
+
+plain : tie.Need-returns-2
+unfolding traceOf
+plain c =
+    let read = c .before in
+    let known = read .before .before .before .before in
+    let start = known .before .before in
+    let a = start .args in
+    let b = now (a .board) in
+    let t : Trace = traceOf b (a .at .trace) in
+    let same = starts-trace _ _ _ (start .pre .1) _ (read .index .ensures .0 ∙ read .before .trace-length .ensures .0) in
+    let rest = read .before .before in
+    let uncached : memory b < 2 = lt-of-le-ne (start .pre .0 .sound .memory) (λ e. rest .match .rest .1 (rest .before .memory .ensures .0 ∙ e)) in
+    record {
+      pd = c .uncached .ensures .1 ∙ ap tracePD same;
+      md = c .uncached .ensures .0 ∙ ap traceMD same;
+      joined = join-none (now (a .ecb)) (evicts t) (start .pre .4) (known .slice-known .given) (evicts-plain t uncached);
+      higher = λ wanted.
+          raised-none _ (a .i) (now (a .row)) (λ j. onlyIf-zero (eqb (core b (a .i)) (core b j)) _ (mostUseful-plain t uncached (evictedBy b j)));
+      later = λ j. omega (arith, start .pre .3 j);
+    }
+
+pub scan-trace-spec : {M : Type 1} → statement M
+scan-trace-spec =
+    tie.close
+    (tie.spec (λ c κs. search needs) (λ c κs. search needs) (λ c κs. search needs) (λ c κs. search needs) asks (λ c. search needs) (λ c. search needs) plain)

@@ -1,0 +1,76 @@
+// One trace of a task: PD, MD and ECB, and what its useful blocks add to a row of overheads.
+mod points;
+
+use board::fields;
+use folds::index;
+use marks::mark_trace;
+use points::raise_points;
+use trace::cursor::Cursor;
+use trace::demand;
+use trace::demand::Demand;
+ghost use mathlib.Core.Path.{_≡_};
+ghost use lib.ListN.{length};
+ghost use Rattle.board.specs.Layout.{memory};
+ghost use Rattle.entries.specs.Marks.{AllEarlier, baseOf};
+ghost use Rattle.trace.specs.Starts.{Starts};
+ghost use Rattle.figures.specs.Ready.{Ready};
+ghost use Rattle.figures.specs.Rows.{Evicted};
+ghost use Rattle.scan.specs.Found.{Found};
+
+// PD and MD of one trace of task i. Its evicting cache blocks are added to `ecb` and, with `rows`, the row is raised by its useful blocks. Without a
+// cache nothing is evicted or useful. `held` has no block of this trace or of a later one; `marks` and `lives` are room to work in.
+pub fn scan_trace(
+    board: &[u32],
+    i: usize,
+    at: Cursor,
+    rows: bool,
+    evicted: &[u64; 256],
+    ecb: &mut [u64],
+    row: &mut [u32; 64],
+    held: &mut [u64; 2048],
+    marks: &mut [u32; 2048],
+    lives: &mut [u64; 2048],
+) -> Demand
+    requires { ⌜ (Ready (now board) i) × (Starts (now board) (at .trace) (at .start)) × (Evicted (now board) i (now evicted))
+        × (AllEarlier (baseOf (at .trace)) (now held)) × (length (now ecb) ≡ 4) ⌝ }
+    ensures { λ r. ⌜ Found (now (board .entry)) i (at .trace) rows (r .pd) (r .md) (now (ecb .entry)) (now (ecb .exit)) (now (row .entry)) (now (row .exit))
+        (now (held .exit)) ⌝ }
+{
+    let kind = fields::memory(board);
+    match kind {
+        2 => under_cache(board, i, at, rows, evicted, ecb, row, held, marks, lives),
+        _ => {
+            let len = index(fields::trace_length(board, at.trace));
+            demand::uncached(board, at.start, len)
+        }
+    }
+}
+
+// The same with a cache.
+fn under_cache(
+    board: &[u32],
+    i: usize,
+    at: Cursor,
+    rows: bool,
+    evicted: &[u64; 256],
+    ecb: &mut [u64],
+    row: &mut [u32; 64],
+    held: &mut [u64; 2048],
+    marks: &mut [u32; 2048],
+    lives: &mut [u64; 2048],
+) -> Demand
+    requires { ⌜ (Ready (now board) i) × (Starts (now board) (at .trace) (at .start)) × (Evicted (now board) i (now evicted))
+        × (AllEarlier (baseOf (at .trace)) (now held)) × (length (now ecb) ≡ 4) × (memory (now board) ≡ 2) ⌝ }
+    ensures { λ r. ⌜ Found (now (board .entry)) i (at .trace) rows (r .pd) (r .md) (now (ecb .entry)) (now (ecb .exit)) (now (row .entry)) (now (row .exit))
+        (now (held .exit)) ⌝ }
+{
+    let len = index(fields::trace_length(board, at.trace));
+    let base = 65536 * (at.trace as u64);
+    let pd = demand::pd(board, at.start, len);
+    let md = mark_trace(board, at.start, len, base, held, ecb, marks);
+    let demand = Demand { pd, md };
+    if rows {
+        raise_points(board, i, len, evicted, marks, lives, row);
+    }
+    demand
+}
