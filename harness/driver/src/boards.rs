@@ -1,4 +1,5 @@
 //! Boards for the two commands: random ones of every kind, extreme ones, damaged ones.
+use crate::RULES;
 use oracle::board::MAX_PERIOD;
 use oracle::generate::*;
 
@@ -17,7 +18,7 @@ pub fn words_of(bytes: &[u8]) -> Option<Vec<u32>> {
 /// A random board; the number picks bus, memory and refresh form in turn.
 pub fn random(r: &mut Rng, number: usize) -> Vec<u32> {
     let (bus, memory, refresh) = (number as u32 % 5, number as u32 / 5 % 3, number as u32 / 15 % 3);
-    let mut s = shape(r, 0, memory, bus, refresh);
+    let mut s = shape(r, RULES.level, memory, bus, refresh);
     if s.tasks > 24 && !r.chance(10) {
         s.tasks = 1 + s.tasks % 24;
     }
@@ -31,6 +32,20 @@ pub fn random(r: &mut Rng, number: usize) -> Vec<u32> {
         w[12] = r.range(1, 12);
     }
     w
+}
+
+/// The board with a number of ways that it cannot have.
+pub fn without_ways(r: &mut Rng, w: &[u32]) -> Vec<u32> {
+    with_ways(w, if w[4] == 2 { r.pick(&NO_WAYS) } else { r.pick(&WAYS[1..]) })
+}
+
+/// One trace a task, long ones over many blocks, in caches of few and of many sets, all of them of so many ways.
+pub fn long_traces(seed: u64, ways: u32) -> [Vec<u32>; 2] {
+    [16, 256].map(|sets| {
+        let mut w = trace_heavy_board(seed, 8, 2, 2, ways, 100);
+        w[13] = sets;
+        w
+    })
 }
 
 /// Boards at the ends of every range.
@@ -52,7 +67,7 @@ pub fn extreme(r: &mut Rng) -> Vec<u32> {
     match memory {
         0 => {}
         1 => (w[13], w[14]) = r.pick(&[(0, 0), (32_768, 32_768), (32_767, 32_767)]),
-        _ => w[13] = r.pick(&[1, 2, 64, 65, 255, 256]),
+        _ => (w[13], w[15]) = (r.pick(&[1, 2, 64, 65, 255, 256]), r.pick(&WAYS)),
     }
     for _ in 0..n {
         let t = r.pick(&[1, 2, MAX_PERIOD - 1, MAX_PERIOD]);

@@ -63,6 +63,8 @@ struct Tally {
     /// Boards on which Analyse and an order have an answer with passes, and those of them on which the order needs fewer.
     settled_twice: usize,
     fewer_passes: usize,
+    /// Boards with a cache that are not refused, by their word 15.
+    ways: BTreeMap<u32, usize>,
 }
 
 impl Tally {
@@ -309,6 +311,9 @@ fn try_page(t: &mut Tally, program: &str, input: &[u8]) {
 
 fn try_board(t: &mut Tally, r: &mut Rng, program: &str, w: &[u32]) {
     t.boards += 1;
+    if check_board(w, RULES).is_ok_and(|b| b.memory() == 2) {
+        *t.ways.entry(w[15]).or_default() += 1;
+    }
     // the number of tasks that lengths and task numbers go by; a damaged board may claim any
     let n = w.get(1).copied().unwrap_or(0).min(64) as usize;
     try_settling(t, r, w, n, Settling::Analyse);
@@ -345,8 +350,12 @@ fn main() {
             let w = extreme(&mut r);
             try_board(&mut t, &mut r, &program, &w);
         }
+        if k % 40 == 0 {
+            let w = without_ways(&mut r, &w);
+            try_board(&mut t, &mut r, &program, &w);
+        }
         if k % 250 == 0 {
-            for (_, bytes) in damaged(&mut r, &w, 0) {
+            for (_, bytes) in damaged(&mut r, &w, RULES.level) {
                 match words_of(&bytes) {
                     Some(v) => try_board(&mut t, &mut r, &program, &v),
                     None => try_page(&mut t, &program, &bytes),
@@ -360,16 +369,22 @@ fn main() {
     }
     println!();
     for bus in 0..5 {
-        for memory in 0..3 {
-            try_board(&mut t, &mut r, &program, &largest_edge(seed + 7, memory, bus, 8, 0));
+        for memory in 0..2 {
+            try_board(&mut t, &mut r, &program, &largest_edge(seed + 7, memory, bus, 8, RULES.level));
         }
-        try_board(&mut t, &mut r, &program, &largest_edge(seed + 8, 2, bus, 1, 0));
+        for ways in WAYS {
+            try_board(&mut t, &mut r, &program, &largest_edge_in_ways(seed + 7, bus, 8, ways));
+            try_board(&mut t, &mut r, &program, &largest_edge_in_ways(seed + 8, bus, 1, ways));
+        }
+    }
+    for w in WAYS.iter().flat_map(|&ways| long_traces(seed, ways)) {
+        try_board(&mut t, &mut r, &program, &w);
     }
     for w in [long_times_board(10_000, 26_000), climbing_board(2, 1, 20_000, 2, 1_000_000), climbing_board(64, 8, 2_000, 2, 1_000_000), climbing_board(64, 8, 20_000_000, 3, 500)] {
         try_board(&mut t, &mut r, &program, &w);
     }
     for _ in 0..40 {
-        let w = lower_overhead_board(&mut r, 0);
+        let w = lower_overhead_board(&mut r, RULES.level);
         try_board(&mut t, &mut r, &program, &w);
     }
     println!("extreme boards done; prefixes of good inputs");
@@ -378,8 +393,9 @@ fn main() {
     for end in [65_532, 65_535, 65_536, 65_537, 65_538, 65_540] {
         try_page(&mut t, &program, &over[..end]);
     }
-    let good = [bytes_of(&k1()), bytes_of(&random(&mut r, 7))];
-    for input in &good {
+    // K1, a scratchpad, and a cache of eight ways
+    let good = [k1(), random(&mut r, 7), with_ways(&random(&mut r, 10), 8)];
+    for input in good.iter().map(|w| bytes_of(w)) {
         for end in 0..=input.len().min(4_000) {
             try_page(&mut t, &program, &input[..end]);
         }
@@ -387,6 +403,7 @@ fn main() {
     for (call, answers) in &t.answers {
         println!("answers of {call}: {answers:?}");
     }
+    println!("boards with a cache that are not refused, by word 15: {:?}", t.ways);
     println!("in order beside analyse: {} boards not spent, {} of them with fewer passes", t.settled_twice, t.fewer_passes);
     println!("{} boards, {} calls, {} pages, {} differences", t.boards, t.calls, t.pages, t.differences);
     std::process::exit((t.differences != 0) as i32);
