@@ -145,6 +145,35 @@ fn alone(rounds: usize, w: &[u32]) -> f64 {
     race(rounds, [&mut || keep(x.product(w))])[0]
 }
 
+/// The boards of memory 2 on which figures and overheads are timed, with one way.
+fn figure_boards(cores: u32) -> Vec<(String, Vec<u32>)> {
+    let mut boards = vec![("8 traces each".to_string(), largest_edge(78, 2, 2, cores, 0))];
+    for turn in [20, 100, 200] {
+        boards.push((format!("one trace each, turn {turn}"), trace_heavy_board(5, 64, cores, 2, 0, turn)));
+    }
+    // 16 sets for some 150 blocks of a trace: every set is full
+    let mut full = trace_heavy_board(5, 64, cores, 2, 0, 100);
+    full[13] = 16;
+    boards.push(("one trace each, full sets".to_string(), full));
+    boards
+}
+
+/// The same in caches of several ways, with the whole Analyse.
+fn several_ways(rounds: usize) {
+    println!("figures and the table of overheads of 64 tasks, caches of several ways: the product, `fast`");
+    for cores in [1, 8] {
+        for (what, w) in figure_boards(cores) {
+            for ways in [1, 2, 4, 8] {
+                prepare(rounds, &format!("  on {cores} cores, {what}, ways {ways}"), &with_ways(&w, ways));
+            }
+        }
+    }
+    println!("whole Analyse, caches of several ways: the product, `plain with tests`, `fast`");
+    for ways in [1, 2, 4, 8] {
+        whole(rounds, &format!("  largest, bus 2, ways {ways}"), &largest_edge_in_ways(77, 2, 8, ways));
+    }
+}
+
 /// Passes in order, one and all, beside the product's own Analyse and beside the reference.
 fn in_order(rounds: usize) {
     println!("passes in order, one pass of 64 tasks on 8 cores core by core: the product, its Analyse, `plain with tests`, `fast`");
@@ -221,4 +250,5 @@ fn main() {
     let climbs = [5_000, 10_000, 20_000].map(|k| alone(3, &limited(&climbing_board(64, 8, 100_000, 2, 1_000_000), k)));
     println!("  whole Analyse of 5,000, 10,000, 20,000 passes: {:.0} {:.0} {:.0}", climbs[0], climbs[1], climbs[2]);
     in_order(rounds);
+    several_ways(rounds);
 }
