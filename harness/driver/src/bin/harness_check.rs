@@ -7,7 +7,7 @@ use driver::library::{self, Reply, LATE, RECORD, REFUSED, SPENT, VALUE};
 use driver::{orders, RULES};
 use oracle::board::{check_board, Refusal};
 use oracle::generate::*;
-use oracle::literal::{self, Answer, Figure, Model};
+use oracle::literal::{self, Answer, Figure, Model, Nat};
 use oracle::{changes, fast, page};
 use std::collections::BTreeMap;
 use std::fmt::{Debug, Display};
@@ -256,10 +256,11 @@ fn task(r: &mut Rng, n: usize) -> usize {
 }
 
 fn try_overhead_and_weigh(t: &mut Tally, r: &mut Rng, w: &[u32], n: usize) {
-    let model = check_board(w, RULES).ok().filter(|_| small(w)).map(Model::new);
+    let checked = check_board(w, RULES).ok();
+    let model = checked.filter(|_| small(w)).map(Model::new);
+    let inside = |k: usize| 1 <= k && k <= n;
     for _ in 0..6 {
         let (i, j) = (task(r, n), task(r, n));
-        let inside = |k: usize| 1 <= k && k <= n;
         let wanted = match &model {
             Some(m) if inside(i) && inside(j) => Ok(m.gamma(i, j) as u64),
             _ => literal::overhead(w, i as u64, j as u64, RULES),
@@ -285,10 +286,10 @@ fn try_overhead_and_weigh(t: &mut Tally, r: &mut Rng, w: &[u32], n: usize) {
             2 => times.push(u32::MAX),
             _ => {}
         }
-        let wanted = match check_board(w, RULES) {
-            Ok(b) if !small(w) && 1 <= i && i <= n && times.len() >= n && (0..n).all(|k| times[k] <= caps[k]) => {
-                Ok(fast::weigh(&b, &times, i))
-            }
+        let sound = inside(i) && times.len() >= n && (0..n).all(|k| times[k] <= caps[k]);
+        let wanted = match (&model, &checked) {
+            (Some(m), _) if sound => Ok(m.sum(&times.iter().map(|&x| x as Nat).collect::<Vec<_>>(), i) as u64),
+            (None, Some(b)) if sound => Ok(fast::weigh(b, &times, i)),
             _ => literal::weigh(w, &times, i as u64, RULES),
         };
         t.calls += 1;
@@ -374,8 +375,8 @@ fn main() {
         }
         for ways in WAYS {
             try_board(&mut t, &mut r, &program, &largest_edge_in_ways(seed + 7, bus, 8, ways));
-            try_board(&mut t, &mut r, &program, &largest_edge_in_ways(seed + 8, bus, 1, ways));
         }
+        try_board(&mut t, &mut r, &program, &largest_edge_in_ways(seed + 8, bus, 1, WAYS[bus as usize]));
     }
     for w in WAYS.iter().flat_map(|&ways| long_traces(seed, ways)) {
         try_board(&mut t, &mut r, &program, &w);
