@@ -41,7 +41,7 @@ extern "C" {
 
 /*
  * Words of one record of the figures table, in this order: core, period T, deadline D, PD, MD, and the evicting cache blocks as eight
- * words: set s is bit s mod 32 (bit 0 lowest) of word 5 + s / 32.
+ * words, by their sets: set s, of any number of ways, is bit s mod 32 (bit 0 lowest) of word 5 + s / 32.
  */
 #define ZUZGRAVEL_RECORD_WORDS 13u
 
@@ -57,7 +57,8 @@ uint32_t zuzgravel_figures(const uint32_t *board, size_t board_words, uint32_t *
                            uint64_t answer[2]);
 
 /*
- * Overhead: the value is the pre-emption overhead of task j on the tasks down to task i, both numbered from 1.
+ * Overhead: the value is the pre-emption overhead of task j on the tasks down to task i, both numbered from 1: the most useful cache
+ * blocks that a task k on the core of j, j < k <= i, can lose at one point of a trace, in each set at most as many as it has ways.
  * Refuses with rows 1 to 9, and 10 for i, then j.
  */
 uint32_t zuzgravel_overhead(const uint32_t *board, size_t board_words, size_t i, size_t j, uint64_t answer[2]);
