@@ -8,7 +8,7 @@ use native.Mathlib.Nat.{add-zero, pow-suc}
 use native.Mathlib.Omega.{arith}
 use lib.ListN.{getD}
 use Rattle.folds.specs.Folds.{onlyIf, sumTo, sumWhere, countTo}
-use Rattle.folds.proofs.Numbers.{onlyIf-bound}
+use Rattle.folds.proofs.Numbers.{onlyIf-bound, onlyIf-zero}
 use Rattle.folds.proofs.Folds.{sumTo-none, sumTo-next, sumTo-zero, sumTo-cong, sumTo-first, sumTo-add, sumTo-scale, sumWhere-bound, countTo-cong}
 use Rattle.folds.proofs.Lists.{getD-tabulate}
 use Rattle.bitset.specs.Bits.{bit, member}
@@ -118,11 +118,7 @@ sum-bound words test from n h = sumWhere-bound test (countOf words from n) 256 1
 module _ (words : List ℕ) (test : ℕ → Bool) where
   pub sum-none : (from : ℕ) → sumWhere test (countOf words from 0) 256 ≡ 0
   unfolding countOf
-  sum-none from = sumTo-zero (λ s. onlyIf (test s) 0) 256 (λ s h. none (test s))
-    where
-      none : (t : Bool) → onlyIf t 0 ≡ 0
-      none true = refl
-      none false = refl
+  sum-none from = sumTo-zero (λ s. onlyIf (test s) 0) 256 (λ s h. onlyIf-zero (test s) 0 refl)
 
   sum-plane : (from n : ℕ)
       → sumWhere test (countOf words from (suc n)) 256 ≡ 2 * sumWhere test (countOf words (suc from) n) 256 + countTo (λ s. inPlane words from s && test s) 256

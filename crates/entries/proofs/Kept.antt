@@ -1,7 +1,7 @@
 -- One slot more, and the slots whose block is loaded again: a load that hits tells the last slot that loaded its block that it is kept, and no other.
 -- Assumes nothing.
 use Prim.Native.Nat.{ℕ, zero, suc, _+_, _≤_, _<_}
-use mathlib.Core.Bool.{Bool, true, false, not, cond, _&&_, _||_, or-true, or-false, false≢true}
+use mathlib.Core.Bool.{Bool, true, false, not, cond, _&&_, _||_, or-true, or-false, or-assoc, false≢true}
 use mathlib.Core.Path.{_≡_, refl, sym, ap, ap₂, _∙_}
 use native.Mathlib.Decide.{ℕ-discrete}
 use native.Mathlib.Nat.{add-zero}
@@ -26,11 +26,7 @@ module _ (l : ℕ → ℕ) (m : ℕ) where
   loaded-end j (suc k) =
       let next : suc j + k ≡ j + suc k = omega arith in
       ap (λ (t : Bool). eqb (l j) (suc m) || t) (loaded-end (suc j) k ∙ ap (λ (i : ℕ). loaded l m (suc j) k || eqb (l i) (suc m)) next)
-      ∙ assoc (eqb (l j) (suc m)) (loaded l m (suc j) k) (eqb (l (j + suc k)) (suc m))
-    where
-      assoc : (a b c : Bool) → (a || (b || c)) ≡ ((a || b) || c)
-      assoc true b c = refl
-      assoc false b c = refl
+      ∙ sym (or-assoc (eqb (l j) (suc m)) (loaded l m (suc j) k) (eqb (l (j + suc k)) (suc m)))
 
   -- ---- the last slot that loads the block
 

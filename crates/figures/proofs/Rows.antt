@@ -9,6 +9,7 @@ use native.Mathlib.Omega.{arith}
 use lib.Dec.{eqb}
 use lib.ListN.{getD, set}
 use Rattle.folds.specs.Folds.{onlyIf, fillTo}
+use Rattle.folds.proofs.Numbers.{onlyIf-zero}
 use Rattle.folds.proofs.Lists.{length-fillTo, fillTo-below, fillTo-from, fillTo-is, fillTo-cong}
 use Rattle.folds.proofs.Loops.{fillTo-turn}
 use Rattle.board.specs.Layout.{core}
@@ -23,10 +24,6 @@ pub fillTo-same : (f : ℕ → ℕ) (xs : List ℕ) (n : ℕ) → ((k : ℕ) →
 fillTo-same f xs n same = sym (fillTo-is f xs 0 n xs refl (λ k l w. sym (same k l)) (λ k l. refl))
 
 -- ---- a row that is raised
-
-pub onlyIf-zero : (test : Bool) (x : ℕ) → x ≡ 0 → onlyIf test x ≡ 0
-onlyIf-zero true x e = e
-onlyIf-zero false x e = refl
 
 pub raised-none : (f : ℕ → ℕ) (i : ℕ) (row : List ℕ) → ((j : ℕ) → f j ≡ 0) → row ≡ raised f i row
 raised-none f i row none = sym (fillTo-same _ row i (λ j h. omega (arith, none j)))

@@ -19,6 +19,11 @@ pub below-suc : (P : ℕ → Type 0) (n : ℕ) → ((k : ℕ) → k < n → P k)
 below-suc P n all here k l = ⊎-elim (λ e. subst P (sym e) here) (λ lt. all k lt) (eq-or-lt-of-le (le-of-suc-le-suc l))
 
 -- two tests that both hold
+-- a test that never holds
+pub never-true : (t : Bool) → (t ≡ true → ⊥) → t ≡ false
+never-true true n = absurd (n refl)
+never-true false n = refl
+
 pub and-both : (s t : Bool) → (s && t) ≡ true → (s ≡ true) × (t ≡ true)
 and-both true t e = (refl, e)
 and-both false t e = absurd (false≢true e)
@@ -98,6 +103,10 @@ onlyIf-mono false h = zero-le
 pub onlyIf-bound : (test : Bool) {a m : ℕ} → a ≤ m → onlyIf test a ≤ m
 onlyIf-bound true h = h
 onlyIf-bound false h = zero-le
+
+pub onlyIf-zero : (test : Bool) (x : ℕ) → x ≡ 0 → onlyIf test x ≡ 0
+onlyIf-zero true x e = e
+onlyIf-zero false x e = refl
 
 pub onlyIf-and : (a b : Bool) (x : ℕ) → onlyIf (a && b) x ≡ onlyIf a (onlyIf b x)
 onlyIf-and true b x = refl

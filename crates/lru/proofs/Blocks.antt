@@ -2,12 +2,13 @@
 -- sets has it once.
 -- Assumes nothing.
 use Prim.Native.Nat.{ℕ, _<_}
-use mathlib.Core.Bool.{Bool, true, false, _&&_}
+use mathlib.Core.Bool.{Bool, true, _&&_}
 use mathlib.Core.List.{List}
 use mathlib.Core.Path.{_≡_, refl, sym, ap, _∙_}
 use borrow.Author.Tests.{eq-eqb, ne-eqb}
 use lib.Dec.{eqb}
 use Rattle.folds.specs.Folds.{onlyIf, sumWhere, countTo}
+use Rattle.folds.proofs.Numbers.{onlyIf-zero, onlyIf-and}
 use Rattle.folds.proofs.Folds.{sumTo-cong, sumTo-swap, sumTo-one, onlyIf-sum}
 use Rattle.lru.specs.Recency.{among, usefulBlock, usefulIn}
 use Rattle.lru.proofs.Useful.{useful-count}
@@ -28,17 +29,9 @@ module _ (place : ℕ → ℕ) (ways : ℕ) (past later : List ℕ) (n : ℕ) (s
       share : ℕ → ℕ → ℕ
       share s m = onlyIf (test s) (onlyIf (eqb (place m) s && useful m) 1)
 
-      none : (t : Bool) → onlyIf t 0 ≡ 0
-      none true = refl
-      none false = refl
-
       apart : (s m : ℕ) → (s ≡ place m → ⊥) → share s m ≡ 0
-      apart s m ne = ap (λ (t : Bool). onlyIf (test s) (onlyIf (t && useful m) 1)) (ne-eqb (place m) s (λ e. ne (sym e))) ∙ none (test s)
-
-      both : (t u : Bool) → onlyIf t (onlyIf u 1) ≡ onlyIf (t && u) 1
-      both true u = refl
-      both false u = refl
+      apart s m ne = ap (λ (t : Bool). onlyIf (test s) (onlyIf (t && useful m) 1)) (ne-eqb (place m) s (λ e. ne (sym e))) ∙ onlyIf-zero (test s) 0 refl
 
       own : (m : ℕ) → share (place m) m ≡ onlyIf (test (place m) && useful m) 1
       own m =
-          ap (λ (t : Bool). onlyIf (test (place m)) (onlyIf (t && useful m) 1)) (eq-eqb (place m) (place m) refl) ∙ both (test (place m)) (useful m)
+          ap (λ (t : Bool). onlyIf (test (place m)) (onlyIf (t && useful m) 1)) (eq-eqb (place m) (place m) refl) ∙ sym (onlyIf-and (test (place m)) (useful m) 1)

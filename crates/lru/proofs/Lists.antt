@@ -11,7 +11,7 @@ use lib.Dec.{eqb}
 use lib.ListN.{length, take}
 use Rattle.folds.specs.Folds.{onlyIf, countTo}
 use Rattle.folds.proofs.Folds.{countTo-zero, countTo-but}
-use Rattle.folds.proofs.Numbers.{onlyIf-bound}
+use Rattle.folds.proofs.Numbers.{never-true, onlyIf-bound}
 use Rattle.lru.specs.Recency.{among, without, countIn}
 
 -- each block once
@@ -62,12 +62,8 @@ among-without m y (x ∷ xs) e = go (among-without m y xs) (ℕ-discrete x m) (�
     go next (no o) (no n) =
         among-later x y xs (next (sym (ap (among y) (without-behind x m xs o) ∙ among-behind x y (without m xs) n) ∙ e))
 
-not-true : (t : Bool) → (t ≡ true → ⊥) → t ≡ false
-not-true true n = absurd (n refl)
-not-true false n = refl
-
 pub missing-without : (m y : ℕ) (xs : List ℕ) → among y xs ≡ false → among y (without m xs) ≡ false
-missing-without m y xs e = not-true (among y (without m xs)) (λ t. false≢true (sym e ∙ among-without m y xs t))
+missing-without m y xs e = never-true (among y (without m xs)) (λ t. false≢true (sym e ∙ among-without m y xs t))
 
 pub once-without : (m : ℕ) (xs : List ℕ) → Once xs → Once (without m xs)
 once-without m [] o = subst Once (sym (without-none m)) o
@@ -100,7 +96,7 @@ among-take (suc k) y (x ∷ xs) e = go (among-take k y xs) (ℕ-discrete x y)
 pub once-take : (k : ℕ) (xs : List ℕ) → Once xs → Once (take k xs)
 once-take zero xs o = tt
 once-take (suc k) [] o = tt
-once-take (suc k) (x ∷ xs) o = (not-true (among x (take k xs)) (λ t. false≢true (sym (o .0) ∙ among-take k x xs t)), once-take k xs (o .1))
+once-take (suc k) (x ∷ xs) o = (never-true (among x (take k xs)) (λ t. false≢true (sym (o .0) ∙ among-take k x xs t)), once-take k xs (o .1))
 
 -- what is among the first k once m is out was among the first k + 1
 pub among-moved : (k m y : ℕ) (xs : List ℕ) → among y (take k (without m xs)) ≡ true → among y (take (suc k) xs) ≡ true

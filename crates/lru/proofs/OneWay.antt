@@ -1,7 +1,7 @@
 -- With one way every figure is that of a direct-mapped cache: hits, misses, and a useful block in each useful set and in no other.
 -- Assumes nothing.
 use Prim.Native.Nat.{ℕ, _+_, _<_}
-use mathlib.Core.Bool.{Bool, true, false, not, cond, _&&_, or-false, false≢true}
+use mathlib.Core.Bool.{Bool, true, false, not, cond, _&&_, or-false, and-comm, false≢true}
 use mathlib.Core.List.{List, [], _∷_, _++_, reverse, append-assoc, append-nil, reverse-append}
 use mathlib.Core.Option.{Option, none, some}
 use mathlib.Core.Path.{_≡_, refl, sym, ap, ap₂, _∙_}
@@ -13,6 +13,7 @@ use lib.Dec.{eqb}
 use lib.ListN.{length, take, length-append, List·getD-append}
 use lib.Seq.{getD-at, take-at, take-append-le}
 use Rattle.folds.specs.Folds.{onlyIf, sumWhere, countTo}
+use Rattle.folds.proofs.Numbers.{never-true, onlyIf-and}
 use Rattle.folds.proofs.Folds.{sumTo-cong, countTo-none, countTo-next, countTo-cong}
 use Rattle.lru.specs.Recency.{among, held, hits, missCount, nextHits, usefulIn, countIn}
 use Rattle.lru.specs.Direct.{firstIn, lastIn, sameBlock, directHits, misses, directMisses, directUseful}
@@ -102,10 +103,6 @@ module _ (place : ℕ → ℕ) where
   next-one s m own past [] last = next-none place 1 past m ∙ sym (ap (sameBlock (some m)) (first-none s))
   next-one s m own past (x ∷ later) last = go (next-one s m own (x ∷ past) later) (ℕ-discrete x m) (ℕ-discrete (place x) s)
     where
-      not-true : (t : Bool) → (t ≡ true → ⊥) → t ≡ false
-      not-true true n = absurd (n refl)
-      not-true false n = refl
-
       -- the block is not held once another is loaded in its set
       lost : (x ≡ m → ⊥) → place x ≡ s → nextHits place 1 (x ∷ past) later m ≡ true → ⊥
       lost n q e =
@@ -120,7 +117,7 @@ module _ (place : ℕ → ℕ) where
           ∙ hits-first past m ∙ ap (λ (o : Option ℕ). sameBlock o (some m)) (ap (λ (k : ℕ). firstIn place k past) own ∙ last)
           ∙ sym (ap (sameBlock (some m)) (first-own s x later (ap place q ∙ own) ∙ ap some q))
       go next (no n) (yes q) =
-          next-other place 1 past later x m n ∙ not-true (nextHits place 1 (x ∷ past) later m) (lost n q)
+          next-other place 1 past later x m n ∙ never-true (nextHits place 1 (x ∷ past) later m) (lost n q)
           ∙ sym (ap (sameBlock (some m)) (first-own s x later q) ∙ ne-eqb m x (λ e. n (sym e)))
       go next (no n) (no o) =
           next-other place 1 past later x m n ∙ next (first-other s x past o ∙ last) ∙ sym (ap (sameBlock (some m)) (first-other s x later o))
@@ -169,10 +166,5 @@ module _ (place : ℕ → ℕ) where
       → sumWhere test (usefulIn place 1 (reverse before) later) n ≡ countTo (λ s. directUseful place before later s && test s) n
   unfolding countTo
   useful-sets-one test before later n =
-      sumTo-cong _ _ n (λ s h. ap (λ (k : ℕ). onlyIf (test s) k) (useful-one before later s) ∙ swap (test s) (directUseful place before later s))
-    where
-      swap : (t u : Bool) → onlyIf t (onlyIf u 1) ≡ onlyIf (u && t) 1
-      swap true true = refl
-      swap true false = refl
-      swap false true = refl
-      swap false false = refl
+      sumTo-cong _ _ n (λ s h. ap (λ (k : ℕ). onlyIf (test s) k) (useful-one before later s) ∙ sym (onlyIf-and (test s) (directUseful place before later s) 1)
+      ∙ ap (λ (t : Bool). onlyIf t 1) (and-comm (test s) (directUseful place before later s)))

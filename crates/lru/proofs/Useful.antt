@@ -11,7 +11,7 @@ use borrow.Author.Tests.{eq-eqb, ne-eqb}
 use lib.Dec.{eqb}
 use lib.ListN.{length, take, length-take}
 use Rattle.folds.specs.Folds.{onlyIf, countTo}
-use Rattle.folds.proofs.Numbers.{onlyIf-bound}
+use Rattle.folds.proofs.Numbers.{never-true, onlyIf-bound}
 use Rattle.folds.proofs.Folds.{countTo-cong, countTo-but}
 use Rattle.lru.specs.Recency.{among, held, hits, missCount, nextHits, usefulBlock, usefulIn, countIn, recent}
 use Rattle.lru.proofs.Lists.{among-later, among-take, once-take, countIn-bound, countIn-numbers, largest, among-largest}
@@ -63,10 +63,6 @@ module _ (place : ℕ → ℕ) (ways : ℕ) where
     inside : (s m : ℕ) → (among m (held place ways s past) && nextHits place ways past later m) ≡ (eqb (place m) s && nextHits place ways past later m)
     inside s m = go (nextHits place ways past later m) (next-held past later m) (ℕ-discrete (place m) s)
       where
-        none : (u : Bool) → (u ≡ true → ⊥) → u ≡ false
-        none true f = absurd (f refl)
-        none false f = refl
-
         go : (t : Bool) → (t ≡ true → among m (held place ways (place m) past) ≡ true) → Dec (place m ≡ s)
             → (among m (held place ways s past) && t) ≡ (eqb (place m) s && t)
         go false f d = and-false (among m (held place ways s past)) ∙ sym (and-false (eqb (place m) s))
@@ -75,7 +71,7 @@ module _ (place : ℕ → ℕ) (ways : ℕ) where
             ∙ sym (ap (λ (u : Bool). u && true) (eq-eqb (place m) s q))
         go true f (no o) =
             ap (λ (u : Bool). u && true)
-            (none (among m (held place ways s past)) (λ e. o (recent-there place s m past (among-take ways m (recent place s past) e) .0))
+            (never-true (among m (held place ways s past)) (λ e. o (recent-there place s m past (among-take ways m (recent place s past) e) .0))
             ∙ sym (ne-eqb (place m) s o))
 
     next-count : (s : ℕ) → usefulIn place ways past later s ≡ countTo (λ m. eqb (place m) s && nextHits place ways past later m) n

@@ -9,12 +9,13 @@ use native.Mathlib.Omega.{arith}
 use borrow.Author.Tests.{ltb-false}
 use lib.Dec.{eqb, ltb}
 use Rattle.folds.specs.Folds.{maxTo}
+use Rattle.folds.proofs.Numbers.{onlyIf-zero}
 use Rattle.folds.proofs.Folds.{maxTo-none}
 use Rattle.board.specs.Layout.{core}
 use Rattle.useful.specs.Recorded.{atPoint}
 use Rattle.figures.specs.Overhead.{evictedBy}
 use Rattle.figures.specs.Rows.{onCoreOf, raised}
-use Rattle.figures.proofs.Rows.{onlyIf-zero, raised-none}
+use Rattle.figures.proofs.Rows.{raised-none}
 
 -- as many points as planes leave room for
 pub batch-fits : (planes k : ℕ) → k ≤ 512 / planes → k * planes ≤ 512

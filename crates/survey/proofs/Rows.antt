@@ -10,7 +10,7 @@ use lib.Dec.{eqb}
 use lib.ListN.{length, getD, replicate, length-replicate, getD-replicate}
 use borrow.Author.Tests.{lt-ltb, le-ltb}
 use Rattle.folds.specs.Folds.{onlyIf, maxTo}
-use Rattle.folds.proofs.Numbers.{le-or-lt}
+use Rattle.folds.proofs.Numbers.{le-or-lt, onlyIf-zero}
 use Rattle.folds.proofs.Folds.{maxTo-none, maxTo-next}
 use Rattle.folds.proofs.Lists.{length-fillTo, fillTo-below, fillTo-from}
 use Rattle.folds.proofs.Loops.{maxTo-turn}
@@ -20,7 +20,7 @@ use Rattle.figures.specs.Figures.{taskTrace}
 use Rattle.figures.specs.Overhead.{evictedBy, reloads, γ}
 use Rattle.figures.specs.Rows.{onCoreOf, raised}
 use Rattle.figures.proofs.Overhead.{reloadsBelow}
-use Rattle.figures.proofs.Rows.{onlyIf-zero, raised-none, raised-more}
+use Rattle.figures.proofs.Rows.{raised-none, raised-more}
 
 -- what the first r traces of task i add, and one trace more
 module _ (b : List ℕ) (i : ℕ) where

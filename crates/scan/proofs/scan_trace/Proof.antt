@@ -7,13 +7,14 @@ use native.Mathlib.Omega.{arith}
 use borrow.Author.Needs.{needs}
 use lib.Arith.{lt-of-le-ne}
 use lib.Dec.{eqb}
+use Rattle.folds.proofs.Numbers.{onlyIf-zero}
 use Rattle.board.specs.Layout.{memory, core}
 use Rattle.trace.specs.Traces.{Trace, traceOf, tracePD, traceMD, evicts}
 use Rattle.trace.proofs.Sets.{evicts-plain, mostUseful-plain}
 use Rattle.trace.proofs.Starts.{starts-lies, starts-trace}
 use Rattle.accesses.proofs.Touched.{join-none}
 use Rattle.figures.specs.Overhead.{evictedBy}
-use Rattle.figures.proofs.Rows.{onlyIf-zero, raised-none}
+use Rattle.figures.proofs.Rows.{raised-none}
 use Rattle.scan.proofs.scan_trace.Statement.{statement}
 use Rattle.scan.proofs.scan_trace.Tie as tie
 
