@@ -6,6 +6,7 @@ use driver::boards::*;
 use driver::library::{self, Reply, LATE, RECORD, REFUSED, SPENT, VALUE};
 use driver::{orders, RULES};
 use oracle::board::{check_board, Refusal};
+use oracle::damage::damaged;
 use oracle::generate::*;
 use oracle::literal::{self, Answer, Figure, Model, Nat};
 use oracle::{changes, fast, page};
