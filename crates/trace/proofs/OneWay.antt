@@ -1,17 +1,17 @@
--- With one way, MD and the number of useful blocks inside any sets are those of a direct-mapped cache.
+-- With one way, MD, ECB and the number of useful blocks inside any sets are those of a direct-mapped cache.
 -- Assumes nothing.
 use Prim.Native.Nat.{ℕ, _+_}
 use mathlib.Core.Bool.{Bool, _&&_}
 use mathlib.Core.List.{[], reverse}
 use mathlib.Core.Path.{_≡_, ap, ap₂, _∙_}
-use Rattle.folds.specs.Folds.{sumWhere, maxTo, countTo}
+use Rattle.folds.specs.Folds.{sumWhere, maxTo, countTo, anyTo}
 use Rattle.folds.proofs.Folds.{maxTo-cong}
 use Rattle.board.specs.Layout.{memory, cacheSets, ways}
-use Rattle.lru.specs.Recency.{missCount, usefulIn}
+use Rattle.lru.specs.Recency.{someIn, missCount, usefulIn}
 use Rattle.lru.specs.Direct.{directMisses, directUseful}
 use Rattle.lru.proofs.OneWay.{misses-one, useful-sets-one}
 use Rattle.trace.specs.Cache.{setOf, placeOf}
-use Rattle.trace.specs.Traces.{Trace, writes, allLoads, loadsBefore, loadsFrom, busLoads, traceMD, useful, usefulAt, mostUseful}
+use Rattle.trace.specs.Traces.{Trace, writes, touchedBy, allLoads, loadsBefore, loadsFrom, busLoads, traceMD, evicts, useful, usefulAt, mostUseful}
 use Rattle.trace.proofs.Sets.{place-is}
 
 module _ (t : Trace) (kind : memory (t .words) ≡ 2) (one : ways (t .words) ≡ 1) where
@@ -28,6 +28,11 @@ module _ (t : Trace) (kind : memory (t .words) ≡ 2) (one : ways (t .words) ≡
       ap (λ (k : ℕ). busLoads t k + countTo (writes t) (t .len)) kind
       ∙ ap (λ (k : ℕ). k + countTo (writes t) (t .len))
       (ap₂ (λ (place : ℕ → ℕ) (w : ℕ). missCount place w [] (allLoads t)) places one ∙ misses-one (setOf c) (allLoads t))
+
+  -- ECB: the sets of a direct-mapped cache in which the touched blocks lie
+  pub evicts-one : (s : ℕ) → evicts t s ≡ anyTo (λ p. someIn (setOf c) s (touchedBy t p)) (t .len)
+  unfolding evicts
+  evicts-one s = rw kind (ap (λ (place : ℕ → ℕ). anyTo (λ p. someIn place s (touchedBy t p)) (t .len)) places)
 
   useful-is : (p s : ℕ) → useful t p s ≡ usefulIn (setOf c) 1 (reverse (loadsBefore t p)) (loadsFrom t p) s
   unfolding useful
