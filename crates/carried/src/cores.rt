@@ -1,9 +1,9 @@
 // The accesses of the tasks of whole cores, each along its chain; j is task n.
 use crate::NO_CAP;
 use board::fields::cores;
-use sums::carry::carry_in;
-use sums::links::above;
-use sums::links::last_on;
+use chains::above;
+use chains::last_on;
+use terms::carry::carry_in;
 ghost use mathlib.Core.Path.{_≡_};
 ghost use Prim.Native.Nat.{_+_, _-_, _*_, _≤_};
 ghost use Rattle.folds.specs.Reaches.{Reaches};

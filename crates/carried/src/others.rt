@@ -1,6 +1,6 @@
 // The accesses of the tasks off one core, task by task.
 use board::fields::core;
-use sums::carry::carry_in;
+use terms::carry::carry_in;
 ghost use mathlib.Core.Path.{_≡_};
 ghost use Prim.Native.Nat.{_+_, _<_, _≤_};
 ghost use Rattle.folds.specs.Folds.{onlyIf};

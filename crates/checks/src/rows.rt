@@ -81,7 +81,7 @@ fn first_over(board: &[u32], times: &[u32], n: usize) -> usize
 {
     let mut k = 0;
     while k < n {
-        let last = sums::rows::bound(board, k);
+        let last = terms::rows::bound(board, k);
         if last + 1 < times[k] {
             return k;
         }

@@ -12,7 +12,7 @@ use carried::slots::sum_capped;
 use folds::index;
 use folds::smaller;
 use folds::wide;
-use sums::rows::time;
+use terms::rows::time;
 ghost use mathlib.Core.Path.{_≡_};
 ghost use Prim.Native.Nat.{_<_, _≤_};
 ghost use Rattle.board.specs.Layout as at;

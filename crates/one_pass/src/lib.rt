@@ -1,9 +1,9 @@
 // One pass over the times of a prepared scratch.
 mod due;
 
+use chains::CHAIN_WORDS;
 use due::is_due;
 use due::joined;
-use sums::links::CHAIN_WORDS;
 ghost use mathlib.Core.Path.{_≡_};
 ghost use Prim.Native.Nat.{_+_, _<_, _≤_};
 ghost use lib.ListN.{length, getD, take};
@@ -22,7 +22,7 @@ pub fn next_time(board: &[u32], n: usize, links: &[u32], scratch: &[u32], i: usi
     ensures { λ r. ⌜ r ≡ capped (system (now (board .entry))) (take n (now (scratch .entry))) i ⌝ }
 {
     let sum = scratch::sum_along(board, n, links, scratch, &scratch[..n], i);
-    let cap = sums::rows::bound(board, i) + 1;
+    let cap = terms::rows::bound(board, i) + 1;
     let time = folds::smaller(sum, folds::wide(cap));
     time as u32
 }
@@ -35,7 +35,7 @@ pub fn make_pass(board: &[u32], n: usize, moved: &[bool], all: u32, scratch: &mu
     ensures { λ _. ⌜ Stored (capped (system (now (board .entry))) (take n (now (scratch .entry)))) n n (now (scratch .entry)) (now (scratch .exit)) ⌝ }
 {
     let mut links = [0u32; CHAIN_WORDS];
-    sums::links::make(board, n, &mut links);
+    chains::make(board, n, &mut links);
     let mut i = 0;
     while i < n {
         if is_due(moved[i], all, board::fields::core(board, i)) {

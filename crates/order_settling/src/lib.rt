@@ -1,9 +1,9 @@
 // The passes of a board in the order of a list of task numbers, over a prepared scratch.
+use chains::CHAIN_WORDS;
+use chains::MOST_CORES;
 use folds::words::clear;
 use settling::Passes;
 use settling::made;
-use sums::links::CHAIN_WORDS;
-use sums::links::MOST_CORES;
 use visits::visit_all;
 ghost use mathlib.Core.Path.{_≡_};
 ghost use Rattle.passes.specs.Visits.{inOrder, Permutation};
@@ -21,7 +21,7 @@ pub fn run(board: &[u32], n: usize, limit: u32, order: &[u32], scratch: &mut [u3
 {
     clear(n, scratch);
     let mut links = [0u32; CHAIN_WORDS];
-    sums::links::make(board, n, &mut links);
+    chains::make(board, n, &mut links);
     let mut on = [0u64; MOST_CORES];
     due::make_cores(board, n, &mut on);
     let mut due = !0u64;

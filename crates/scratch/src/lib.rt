@@ -1,6 +1,6 @@
 // The word scratch: the figures of every task, laid out for the passes, and a task's sum from them.
+use chains::CHAIN_WORDS;
 use figures::row::place;
-use sums::links::CHAIN_WORDS;
 ghost use mathlib.Core.Path.{_≡_};
 ghost use Prim.Native.Nat.{_<_};
 ghost use lib.ListN.{length};
@@ -55,7 +55,7 @@ pub fn sum_of(board: &[u32], n: usize, scratch: &[u32], times: &[u32], i: usize)
     ensures { λ r. ⌜ r ≡ taskSum (now (board .entry)) (now (times .entry)) i ⌝ }
 {
     let mut links = [0u32; CHAIN_WORDS];
-    sums::links::make(board, n, &mut links);
+    chains::make(board, n, &mut links);
     sum_along(board, n, &links, scratch, times, i)
 }
 

@@ -1,6 +1,1 @@
-// A task's sum: the code of its parts, S, W and the refreshes.
-pub mod carry;
-pub mod links;
-pub mod own;
-pub mod refresh;
-pub mod rows;
+// A task's sum: its definition and the laws of it. The code of its terms is in crate terms.

@@ -1,0 +1,28 @@
+-- `terms::refresh::distributed` meets its contract.
+-- Assumes nothing.
+use borrow.Author.Needs.{needs}
+use native.Mathlib.Omega.{arith}
+use lib.Dec.{lit<}
+use mathlib.Core.Path.{_∙_}
+use Rattle.board.specs.Layout.{mostRefreshRows}
+use Rattle.sums.specs.Limits.{latestTime}
+use Rattle.sums.proofs.Numbers.{product-bound, product-fits}
+use Rattle.terms.proofs.Refreshes.{distributed-is}
+use Rattle.terms.proofs.refresh.distributed.Statement.{statement}
+use Rattle.terms.proofs.refresh.distributed.Tie as tie
+
+returns : tie.Need-returns
+returns c =
+    let p = c .before in
+    distributed-is _ _ _ (p .before .before .before .before .before .time .ensures .0)
+    (p .before .before .before .wide .ensures .0 ∙ p .before .before .before .before .refresh-interval .ensures .0)
+    (p .before .wide2 .ensures .0 ∙ p .before .before .refresh-rows .ensures .0)
+    (p .ceil-div .ensures .0) (p .before .before .before .before .before .before .before .before .pre .1) (c .smaller .ensures)
+
+pub distributed-spec : {M : Type 1} → statement M
+distributed-spec =
+    tie.close
+    (tie.spec (λ c κs. search needs) (λ c κs. search needs) (λ c κs. search needs) (λ c κs. search needs) (λ c κs. search needs)
+    (λ c. product-fits latestTime mostRefreshRows (omega arith) (omega arith) (lit< tt))
+    (λ c κs. omega (arith, product-bound {x = c .before .before .before .before .time .result} {y = c .wide2 .result} latestTime mostRefreshRows (omega arith) (omega arith)))
+    (λ c κs. search needs) returns)
