@@ -1,0 +1,124 @@
+"""What the calls must answer: the call's line, and the lines that it prints."""
+from stored.boards import TOP, WORDS
+from stored.reference import ask
+
+
+def verdict(words):
+    if len(words) > WORDS:
+        # the reference's program refuses so many bytes by row 15 already
+        return '1', ['bad 1 %d' % len(words)]
+    page = ask(words)
+    return '1', page if page[0].startswith('bad') else ['ok']
+
+
+def task(number):
+    """A task's number in a line: its low and its high 32 bits."""
+    return '%d %d' % (number % 2**32, number >> 32)
+
+
+def records(words):
+    """What a table has of each task: core, T, D, PD, MD and the words of ECB."""
+    fields = [line.split() for line in ask(words, 'figures')]
+    return [[int(x) for x in row[1:6]] + [int(x, 16) for x in row[6:10]] for row in fields]
+
+
+def record_lines(table):
+    return [' '.join(map(str, [k] + record)) for k, record in enumerate(table, 1)]
+
+
+MARK = [9] * 9  # a record before a call
+
+
+def figures_of_64(words):
+    table = records(words)
+    return '2', [str(len(table))] + record_lines(table) + ['same %d' % (64 - len(table))]
+
+
+def gammas(words):
+    return '9 %d' % words[1], ['gamma ' + row for row in ask(words, 'gammas')]
+
+
+def weigh(words, number, times):
+    return ' '.join(['3', task(number), *map(str, times)]), ask(words, 'weigh', str(number), *map(str, times))
+
+
+def weighed(line):
+    asked, answer = line.split(' = ')
+    number, *times = map(int, asked.split())
+    return ' '.join(['3', task(number), *map(str, times)]), [answer]
+
+
+def overhead(words, i, j):
+    return '8 %s %s' % (task(i), task(j)), ask(words, 'overhead', str(i), str(j))
+
+
+def row(answer):
+    """The row that refuses, 0 where none does."""
+    kind, *fields = answer.split()
+    return int(fields[0]) if kind == 'bad' else 0
+
+
+def lent(words, *command):
+    """The answer, the times and the table of Analyse, or of the reference's command `order` with a list, where it is lent 6 words of times, all 7,
+    32 of scratch, and three marked records."""
+    answer, *lines = ask(words, *command)
+    n = words[1] if len(words) > 1 else 0
+    times, table = [7] * 6, [MARK] * 3
+    if 0 < row(answer) < 10:
+        return answer, times, table
+    for short, most in ((11, 6), (12, 32), (13, 3)):
+        if (n * n + 4 * n if short == 12 else n) > most:
+            return 'bad %d %d' % (short, most), times, table
+    if not row(answer):
+        table[:n] = records(words)
+    if answer.startswith('ok'):
+        times[:n] = [int(line.split()[2]) for line in lines]
+    return answer, times, table
+
+
+def figures_of_3(words, answer, times, table):
+    if 0 < row(answer) < 10:
+        line = answer
+    else:
+        line = str(words[1]) if words[1] <= 3 else 'bad 13 3'
+    return '6', [line] + record_lines(table)
+
+
+def analyse_of_3(call, answer, times, table):
+    kind, *fields = answer.split()
+    line = {'ok': 'ok ' + fields[-1], 'spent': 'spent'}.get(kind, answer)
+    return call, [line] + record_lines(table) + [' '.join(map(str, ['times'] + times))]
+
+
+def analyse(call, answer, times, table):
+    """For C: the code and the numbers of the answer, the times, and the records as words, with 12 words to spare."""
+    kind, *fields = answer.split()
+    code = ('ok', 'late', 'spent', 'bad').index(kind)
+    numbers = {'ok': fields[1:2] + [0], 'late': fields, 'spent': [0, 0], 'bad': fields}[kind]
+    def halves(record): return [half for s in record[5:] for half in ((9, 9) if record == MARK else (s % 2**32, s >> 32))]
+    held = [x for record in table for x in record[:5] + halves(record)]
+    return call, [' '.join(map(str, [code, *numbers, '|', *times, '|', *held, *[9] * 12]))]
+
+
+def in_order(words, lists):
+    """Analyse in the order of each list, for C and with a table."""
+    calls = []
+    for order in lists:
+        given = [str(i) for i in order]
+        held = lent(words, 'order', *given)
+        calls += [analyse(' '.join(['10', *given]), *held), analyse_of_3(' '.join(['11', *given]), *held)]
+    return calls
+
+
+def numbers(words):
+    """Tasks and tasks that are none, and too few times; of two faults the first row of the table is named."""
+    n = words[1] if len(words) > 1 else 0
+    outside = (0, n + 1, 2**32, 2**32 + 1, 2**64 - 1)
+    pairs = [(n, 1), (1, n)] + [(i, 1) for i in outside] + [(1, j) for j in outside] + [(n + 1, 0), (0, n + 1), (2**32 + 1, 0)]
+    zeros = [0] * n
+    weighs = [(i, zeros) for i in outside] + [(1, zeros[1:]), (n, []), (n + 1, []), (1, zeros + [TOP]), (1, [TOP] + zeros[2:])]
+    return [overhead(words, i, j) for i, j in pairs] + [weigh(words, i, times) for i, times in weighs]
+
+
+def page(words):
+    return '5', ask(words)
