@@ -1,23 +1,9 @@
 //! Change 1: plain = fast = changes in any order, on generated boards of every level; K1 in both of its orders.
+mod common;
+use common::agree_in_order;
 use oracle::board::*;
-use oracle::changes::*;
 use oracle::generate::*;
-use oracle::literal::*;
-use oracle::{fast, plain};
-
-/// The answer of a call with room for 64 tasks, and what it leaves in times and table.
-fn left(call: impl FnOnce(&mut [u32], &mut [u32], &mut [Figure]) -> Answer) -> (Answer, Vec<u32>, Vec<Figure>) {
-    let mut b = Buffers::full();
-    let answer = call(&mut b.times, &mut b.scratch, &mut b.table);
-    (answer, b.times, b.table)
-}
-
-fn agree(w: &[u32], list: &[u32], rules: Rules) -> Answer {
-    let wanted = left(|t, s, f| analyse_in_order(w, t, s, f, list, rules));
-    assert_eq!(wanted, left(|t, s, f| plain::analyse_in_order_tested(w, t, s, f, list, rules)), "{list:?} {w:?}");
-    assert_eq!(wanted, left(|t, s, f| fast::analyse_in_order(w, t, s, f, list, rules)), "{list:?} {w:?}");
-    wanted.0
-}
+use oracle::literal::Answer;
 
 #[test]
 fn all_levels() {
@@ -27,7 +13,7 @@ fn all_levels() {
             let mut w = board_at(&mut r, level, k);
             for _ in 0..3 {
                 let list = shuffled(&mut r, w[1] as usize);
-                agree(&w, &list, Rules { level });
+                agree_in_order(&w, &list, Rules { level });
                 w[12] = r.range(1, 6);
             }
         }
@@ -40,7 +26,7 @@ fn many_passes() {
     for _ in 0..20 {
         let w = many_passes_board(&mut r, 1, 10);
         let list = shuffled(&mut r, w[1] as usize);
-        agree(&w, &list, Rules { level: 1 });
+        agree_in_order(&w, &list, Rules { level: 1 });
     }
 }
 
@@ -58,9 +44,9 @@ fn refused_lists() {
         (&[2, 2], 1),
         (&[0, 0], 0),
     ] {
-        assert_eq!(agree(&w, list, Rules { level: 1 }), Answer::Refused(Refusal { no: 16, place }));
+        assert_eq!(agree_in_order(&w, list, Rules { level: 1 }), Answer::Refused(Refusal { no: 16, place }));
     }
-    assert_eq!(agree(&w[..19], &[], Rules { level: 1 }), Answer::Refused(Refusal { no: 1, place: 19 }));
+    assert_eq!(agree_in_order(&w[..19], &[], Rules { level: 1 }), Answer::Refused(Refusal { no: 1, place: 19 }));
 }
 
 /// Analyse needs four passes; each order has its own number, and may have times where Analyse is spent.
@@ -68,10 +54,10 @@ fn refused_lists() {
 fn k1_in_both_orders() {
     let mut w = k1();
     let rules = Rules { level: 1 };
-    assert_eq!(agree(&w, &[1, 2], rules), Answer::Times { passes: 3 });
-    assert_eq!(agree(&w, &[2, 1], rules), Answer::Times { passes: 4 });
+    assert_eq!(agree_in_order(&w, &[1, 2], rules), Answer::Times { passes: 3 });
+    assert_eq!(agree_in_order(&w, &[2, 1], rules), Answer::Times { passes: 4 });
     w[12] = 3;
     assert_eq!(quick(&w, 1), Answer::Spent);
-    assert_eq!(agree(&w, &[1, 2], rules), Answer::Times { passes: 3 });
-    assert_eq!(agree(&w, &[2, 1], rules), Answer::Spent);
+    assert_eq!(agree_in_order(&w, &[1, 2], rules), Answer::Times { passes: 3 });
+    assert_eq!(agree_in_order(&w, &[2, 1], rules), Answer::Spent);
 }

@@ -1,5 +1,7 @@
 //! Change 2: hits, useful blocks and overheads in caches of several ways by hand; `literal` = `fast`, one way = the old figures, hits by
 //! counting the blocks in between; word 15.
+mod common;
+use common::{bytes, with};
 use oracle::board::*;
 use oracle::generate::*;
 use oracle::literal::*;
@@ -134,10 +136,6 @@ fn drawn_boards() {
     }
 }
 
-fn bytes(w: &[u32]) -> Vec<u8> {
-    w.iter().flat_map(|x| x.to_le_bytes()).collect()
-}
-
 #[test]
 fn one_way_is_the_old_cache() {
     let mut r = Rng(11);
@@ -160,13 +158,7 @@ fn word_15() {
     (none[4], none[13]) = (0, 0);
     let mut held = none.clone();
     held[4] = 1;
-    let row = |w: &[u32], changes: &[(usize, u32)]| {
-        let mut v = w.to_vec();
-        for &(at, x) in changes {
-            v[at] = x;
-        }
-        check_board(&v, TWO).err().map(|e| (e.no, e.place))
-    };
+    let row = |w: &[u32], set: &[(usize, u32)]| check_board(&with(w, set), TWO).err().map(|e| (e.no, e.place));
     for x in (0..300).chain([1 << 16, 1 << 31, u32::MAX]) {
         assert_eq!(row(&cache, &[(15, x)]), if WAYS.contains(&x) { None } else { Some((2, 15)) });
         for w in [&none, &held] {
