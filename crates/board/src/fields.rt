@@ -142,6 +142,14 @@ pub fn ways(board: &[u32]) -> u32
     larger(1, board[15])
 }
 
+// p, the distributed refreshes that may be put off.
+pub fn put_off(board: &[u32]) -> u32
+    requires { ⌜ Sound (now board) ⌝ }
+    ensures { λ r. ⌜ (r ≡ at.putOff (now (board .entry))) × (r ≤ at.mostPutOff) ⌝ }
+{
+    board[16]
+}
+
 // Word `field` of task k.
 fn task_word(board: &[u32], k: usize, field: usize) -> u32
     requires { ⌜ (Sound (now board)) × (k < at.tasks (now board)) × (field < 5) ⌝ }

@@ -10,6 +10,8 @@ pub const LONGEST: u32 = 268435455;
 
 pub const MOST_REFRESH_ROWS: u32 = 65535;
 
+pub const MOST_PUT_OFF: u32 = 8;
+
 // Blocks below it hold code, the others data; a scratchpad holds at most as many of each.
 pub const FIRST_DATA_BLOCK: u32 = 32768;
 

@@ -1,4 +1,4 @@
--- K1 to K11, the worked examples of document 01, and small examples of document 02's requests (K1 in a chosen order, caches with several ways), as one
+-- K1 to K11, the worked examples of document 01, and small examples of document 02's requests (K1 in a chosen order, caches with several ways, K8 with refreshes put off), as one
 -- theorem about the definitions that the calls' contracts cite, by computation.
 -- Assumes nothing.
 use Prim.Native.Nat.{ℕ, suc, _/_, _%_}
@@ -17,7 +17,7 @@ use Rattle.trace.specs.Traces.{traceOf, loads, tracePD, busLoads, traceMD, evic
 use Rattle.figures.specs.Figures.{taskPD, taskMD, evicting, figureOf}
 use Rattle.figures.specs.Overhead.{evictedBy, reloads, γ}
 use Rattle.sums.specs.Sums.{memoryDemand, ownAccesses, carryIn, coreAccesses, lowerAccesses, interference, busAccesses, refreshes, higherWork, taskSum}
-use Rattle.sums.specs.Cases.{K1, K2, K3, K4, K5, K6, K7, K8}
+use Rattle.sums.specs.Cases.{K1, K2, K3, K4, K5, K6, K7, K8, K8-putOff}
 use Rattle.passes.specs.Passes.{pass, after, unchanged, changes, passesBy, settledBy, firstLate}
 use Rattle.passes.specs.Visits.{inTurn}
 use Rattle.answers.specs.Refusals.{figuresRefusal, overheadRefusal, analyseRefusal, inOrderRefusal}
@@ -182,6 +182,13 @@ pub examples :
     × (inOrder K1 (2 ∷ 3 ∷ []) ≡ Refused 16 1)
     × (inOrder K1 (0 ∷ 0 ∷ []) ≡ Refused 16 0)
     × (inOrder K1 (2 ∷ 2 ∷ []) ≡ Refused 16 1)
+    × Settles (K8-putOff 1) 52 38 4
+    × (answer (set (K8-putOff 1) 22 51) ≡ Late 1 4)
+    × Settles (K8-putOff 2) 55 44 5
+    × Settles (K8-putOff 8) 61 44 3
+    × (answer (K8-putOff 9) ≡ Refused 2 16)
+    × (answer (set (K8-putOff 1) 8 1) ≡ Refused 2 16)
+    × (answer (set K1 16 1) ≡ Refused 2 16)
 unfolding ceilDiv sumTo maxTo countTo anyTo firstFrom tabulate fillTo sameList wordOf wordsOf firstTrace firstInstruction headerRanges headerOk taskRanges taskOk workOk refuseUnless firstBad refuseFirst refusalOf among without countIn someIn recent hits missCount nextHits usefulIn placeOf traceOf loads tracePD busLoads traceMD evicts useful usefulAt mostUseful taskPD taskMD evicting figureOf evictedBy reloads γ memoryDemand ownAccesses carryIn coreAccesses lowerAccesses interference busAccesses refreshes higherWork taskSum pass inTurn after unchanged changes passesBy settledBy firstLate figuresRefusal overheadRefusal analyseRefusal inOrderRefusal figuresAnswer overheadAnswer settledAnswer analyseAnswer inOrderAnswer timesLeft wordsIn inputRefusal digitsOf decimal line joinTo answerPage boardPage pageOf
 examples = (
   (refl, refl),
@@ -226,6 +233,13 @@ examples = (
   refl,
   refl,
   refl,
+  refl,
+  refl,
+  refl,
+  (refl, refl),
+  refl,
+  (refl, refl),
+  (refl, refl),
   refl,
   refl,
   refl,

@@ -23,7 +23,7 @@ pub headerRow : (b : List ℕ) {i k : ℕ} → i ≡ k → getD (headerRanges b)
 unfolding headerOk
 headerRow b {i} e = entry (headerRanges b) (word b i) e
 
-pub headerSpare : (b : List ℕ) (i : ℕ) → 16 ≤ i → isZero (word b i) ≡ headerOk b i
+pub headerSpare : (b : List ℕ) (i : ℕ) → 17 ≤ i → isZero (word b i) ≡ headerOk b i
 unfolding headerOk headerRanges
 headerSpare b i h = ap (λ (f : ℕ → Bool). f (word b i)) (sym (List·getD-eq-default (headerRanges b) isZero h))
 

@@ -5,7 +5,7 @@ use mathlib.Core.Bool.{Bool, cond, _&&_}
 use mathlib.Core.List.{List, [], _∷_}
 use lib.ListN.{getD}
 use lib.Dec.{leb, ltb, eqb}
-use Rattle.board.specs.Layout.{word, cores, memory, bus, refresh, kindOf, blockOf, mostTasks, longest, mostRefreshRows, firstDataBlock, isWays}
+use Rattle.board.specs.Layout.{word, cores, memory, bus, refresh, kindOf, blockOf, mostTasks, longest, mostRefreshRows, mostPutOff, firstDataBlock, isWays}
 
 -- low .. high
 abbrev pub within : ℕ → ℕ → ℕ → Bool
@@ -41,6 +41,7 @@ headerRanges b =
     ∷ (λ x. cond (eqb (memory b) 2) (within 1 256 x) (rangeIf (eqb (memory b) 1) 0 firstDataBlock x))
     ∷ rangeIf (eqb (memory b) 1) 0 firstDataBlock
     ∷ testIf (eqb (memory b) 2) isWays
+    ∷ rangeIf (eqb (refresh b) 2) 0 mostPutOff
     ∷ []
 
 unfoldable pub headerOk : List ℕ → ℕ → Bool

@@ -1,6 +1,7 @@
 // The range of each word of a board.
 use board::FIRST_DATA_BLOCK;
 use board::LONGEST;
+use board::MOST_PUT_OFF;
 use board::MOST_REFRESH_ROWS;
 use board::work;
 ghost use mathlib.Core.Path.{_≡_};
@@ -45,14 +46,15 @@ fn ways_if(cached: bool, x: u32) -> bool
     }
 }
 
-// Words 16 and above are spare.
+// Words 17 and above are spare.
 fn header_ok(board: &[u32], i: usize) -> bool
     requires { ⌜ (20 ≤ length (now board)) × (i < length (now board)) ⌝ }
     ensures { λ r. ⌜ r ≡ headerOk (now (board .entry)) i ⌝ }
 {
     let memory = board[4];
     let slotted = 3 <= board[5];
-    let refreshed = 1 <= board[8];
+    let refresh = board[8];
+    let refreshed = 1 <= refresh;
     let x = board[i];
     match i {
         0 => within(1, 8, x),
@@ -77,6 +79,7 @@ fn header_ok(board: &[u32], i: usize) -> bool
         }
         14 => range_if(memory == 1, 0, FIRST_DATA_BLOCK, x),
         15 => ways_if(memory == 2, x),
+        16 => range_if(refresh == 2, 0, MOST_PUT_OFF, x),
         _ => x == 0,
     }
 }

@@ -80,7 +80,8 @@ module _ (b : List ℕ) (s : Sound b) where
       ∙ next 13 (omega arith) (codeOrSets-is (at.memory b) _ (s .memory) (s .held) (s .sets) (s .noMemory))
       ∙ next 14 (omega arith) (rangeIf-is _ 0 at.firstDataBlock _ (λ t. (omega arith, s .heldData)) (λ t. s .noHeldData (eqb-false _ 1 t)))
       ∙ next 15 (omega arith) (testIf-is (eqb (at.memory b) 2) at.isWays _ (λ t. s .ways (eqb-true _ 2 t)) (λ t. s .noWays (eqb-false _ 2 t)))
-      ∙ firstBad-none (headerOk b) 16 20 (omega arith) (λ i l u. sym (headerSpare b i l) ∙ eq-eqb _ 0 (s .spare i l u))
+      ∙ next 16 (omega arith) (rangeIf-is _ 0 at.mostPutOff _ (λ t. (omega arith, s .putOff)) (λ t. s .noPutOff (eqb-false _ 2 t)))
+      ∙ firstBad-none (headerOk b) 17 20 (omega arith) (λ i l u. sym (headerSpare b i l) ∙ eq-eqb _ 0 (s .spare i l u))
 
   task : (k f : ℕ) → k < at.tasks b → f < 5 → taskOk b (20 + 5 * k + f) ≡ true
   unfolding taskRanges

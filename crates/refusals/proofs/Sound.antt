@@ -110,7 +110,7 @@ module _ (b : List ℕ) (e : refusalOf b ≡ Passed) where
   header : (i : ℕ) → i < 20 → headerOk b i ≡ true
   header i l = refuseFirst-passed 2 (headerOk b) 0 20 (rows .1) i (omega arith) l
 
-  spare-word : (i : ℕ) → 16 ≤ i → i < 20 → word b i ≡ 0
+  spare-word : (i : ℕ) → 17 ≤ i → i < 20 → word b i ≡ 0
   spare-word i l u = eqb-true _ 0 (headerSpare b i l ∙ header i u)
 
   -- field f of task k passes its test
@@ -155,6 +155,8 @@ module _ (b : List ℕ) (e : refusalOf b ≡ Passed) where
     noHeldData = λ h. unused (eqb (at.memory b) 1) (within 0 at.firstDataBlock) _ (ne-eqb _ 1 h) (header 14 (omega arith));
     ways = λ m. used-test (eqb (at.memory b) 2) at.isWays (word b 15) (eq-eqb _ 2 m) (header 15 (omega arith));
     noWays = λ h. unused (eqb (at.memory b) 2) at.isWays (word b 15) (ne-eqb _ 2 h) (header 15 (omega arith));
+    putOff = bounded (eqb (at.refresh b) 2) at.mostPutOff _ (header 16 (omega arith));
+    noPutOff = λ h. unused (eqb (at.refresh b) 2) (within 0 at.mostPutOff) _ (ne-eqb _ 2 h) (header 16 (omega arith));
     spare = spare-word;
     core = λ k l. within-true 1 (at.cores b) _ (field k 0 l (omega arith));
     period = λ k l. within-true 1 at.longest _ (field k 1 l (omega arith));

@@ -1,5 +1,5 @@
 -- A task's sum never falls when the times that it reads rise, its own and, where the bus is not TDMA, those of the tasks on other cores,
--- when work rises, and when periods fall: one proof over the five buses and the three forms of refresh. The two boards may be one.
+-- when work rises, when periods fall, and when more refreshes are put off: one proof over the five buses and the three forms of refresh. The two boards may be one.
 -- Every part is a sum of terms, each a demand times a rounded quotient of a time, or W. W rises with its window u: as long as u stays in
 -- one period, what is left of it grows; when u enters a further period, W gains a whole D', which the part left never exceeds. A shorter
 -- period leaves more of u, or enters a further period.
@@ -17,7 +17,7 @@ use borrow.Author.Tests.{ltb-true, eqb-true, eqb-false, not-true}
 use Rattle.folds.specs.Folds.{ceilDiv}
 use Rattle.folds.proofs.Numbers.{Shorter, shorter-same, div-rise, ceilDiv-rise, ceilDiv-mono}
 use Rattle.folds.proofs.Folds.{sumWhere-rise}
-use Rattle.board.specs.Layout.{word, cores, tasks, bus, slots, accessCycles, refresh, refreshInterval, refreshRows, refreshCycles, core, period}
+use Rattle.board.specs.Layout.{word, cores, tasks, bus, slots, accessCycles, refresh, refreshInterval, refreshRows, refreshCycles, putOff, core, period}
 use Rattle.folds.proofs.Numbers.{and-both}
 use Rattle.figures.specs.Figures.{taskPD}
 use Rattle.sums.specs.Sums.{lowest, memoryDemand, isOther, isBefore, isAfter, overCores, window, ownAccesses, carryIn, coreAccesses, lowerAccesses, interference, busAccesses, refreshes, higherWork, taskSum}
@@ -52,9 +52,11 @@ module _ (x : ℕ) where
   after-leaves : Leaves x (isAfter x)
   after-leaves y e same = omega (arith, ltb-true)
 
--- the sums of board b' are those of b with as much work or more, and periods as long or shorter: of all else that a sum reads they have the same
+-- the sums of board b' are those of b with as much work or more, periods as long or shorter, and as many refreshes put off or more: of all else
+-- that a sum reads they have the same
 pub record Heavier (b b' : List ℕ) : Type 0 where
   pub header : (i : ℕ) → i < 12 → word b i ≡ word b' i
+  pub putOff : putOff b ≤ putOff b'
   pub cores : (k : ℕ) → k < tasks b → core b k ≡ core b' k
   pub periods : (k : ℕ) → k < tasks b → Shorter (period b' k) (period b k)
   pub work : (k : ℕ) → k < tasks b → taskPD b k ≤ taskPD b' k
@@ -64,6 +66,7 @@ pub record Heavier (b b' : List ℕ) : Type 0 where
 pub heavier-same : (b : List ℕ) → Heavier b b
 heavier-same b = record {
   header = λ i h. refl;
+  putOff = le-refl _;
   cores = λ k h. refl;
   periods = λ k h. shorter-same (period b k);
   work = λ k h. le-refl _;
@@ -235,6 +238,7 @@ module _ (b b' R R' : List ℕ) (heavier : Heavier b b') where
           (omega (
             arith,
             busAccesses-rise,
+            heavier .putOff,
             ceilDiv-mono (refreshInterval b') (t * refreshRows b') (t' * refreshRows b') (mul-le-mul own (le-refl (refreshRows b'))),
           ))
 

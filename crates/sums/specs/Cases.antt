@@ -36,3 +36,7 @@ K7 = set K1 5 4
 
 abbrev pub K8 : List ℕ
 K8 = set (set (set (set K7 8 2) 9 20) 10 1) 11 3
+
+-- K8 with p refreshes put off
+abbrev pub K8-putOff : ℕ → List ℕ
+K8-putOff p = set K8 16 p

@@ -1,11 +1,11 @@
 -- The refreshes, from numbers that code read off the board and the times.
 -- Assumes nothing.
-use Prim.Native.Nat.{ℕ, _*_, min}
+use Prim.Native.Nat.{ℕ, _+_, _*_, min}
 use mathlib.Core.List.{List}
 use mathlib.Core.Path.{_≡_}
 use lib.ListN.{getD}
 use Rattle.folds.specs.Folds.{ceilDiv}
-use Rattle.board.specs.Layout.{refreshInterval, refreshRows}
+use Rattle.board.specs.Layout.{refreshInterval, refreshRows, putOff}
 use Rattle.sums.specs.Sums.{busAccesses, refreshes}
 
 module _ (b R : List ℕ) (i : ℕ) {t T rows n : ℕ} (time : t ≡ getD R i 0) (interval : T ≡ refreshInterval b) (each : rows ≡ refreshRows b) where
@@ -13,6 +13,7 @@ module _ (b R : List ℕ) (i : ℕ) {t T rows n : ℕ} (time : t ≡ getD R i 0)
   unfolding refreshes
   burst-is due = cc
 
-  pub distributed-is : {q count : ℕ} → n ≡ ceilDiv (t * rows) T → count ≡ busAccesses b R i → q ≡ min count n → q ≡ refreshes b R i 2
+  pub distributed-is : {q count p : ℕ} → n ≡ ceilDiv (t * rows) T → p ≡ putOff b → count ≡ busAccesses b R i → q ≡ min count (n + p)
+      → q ≡ refreshes b R i 2
   unfolding refreshes
-  distributed-is due all least = cc
+  distributed-is due postponed all least = cc

@@ -1,5 +1,6 @@
 // The refreshes that can delay a task, by their form.
 use crate::rows::time;
+use board::fields::put_off;
 use board::fields::refresh;
 use board::fields::refresh_interval;
 use board::fields::refresh_rows;
@@ -24,7 +25,7 @@ fn burst(board: &[u32], times: &[u32], i: usize) -> u64
     ceil_div(t, interval) * rows
 }
 
-// Form 2: evenly spaced refreshes, at most one for each of the count of bus accesses.
+// Form 2: evenly spaced refreshes and those put off, at most one for each of the count of bus accesses.
 fn distributed(board: &[u32], times: &[u32], i: usize, count: u64) -> u64
     requires { ⌜ (Sound (now board)) × CappedTimes (now board) (now times) × (i < at.tasks (now board)) × (1 ≤ at.refresh (now board)) ⌝ }
     requires { ⌜ count ≡ spec.busAccesses (now board) (now times) i ⌝ }
@@ -33,7 +34,8 @@ fn distributed(board: &[u32], times: &[u32], i: usize, count: u64) -> u64
     let t = time(board, times, i);
     let interval = wide(refresh_interval(board));
     let rows = wide(refresh_rows(board));
-    let due = ceil_div(t * rows, interval);
+    let postponed = wide(put_off(board));
+    let due = ceil_div(t * rows, interval) + postponed;
     smaller(count, due)
 }
 

@@ -1,6 +1,6 @@
 //! Boards for the two commands: random ones of every kind, extreme ones, damaged ones.
 use crate::RULES;
-use oracle::board::MAX_PERIOD;
+use oracle::board::{MAX_PERIOD, MOST_PUT_OFF};
 use oracle::generate::*;
 
 pub fn bytes_of(words: &[u32]) -> Vec<u8> {
@@ -39,6 +39,12 @@ pub fn without_ways(r: &mut Rng, w: &[u32]) -> Vec<u32> {
     with_ways(w, if w[4] == 2 { r.pick(&NO_WAYS) } else { r.pick(&WAYS[1..]) })
 }
 
+/// The board with a number of refreshes put off that it cannot have.
+pub fn without_putting_off(r: &mut Rng, w: &[u32]) -> Vec<u32> {
+    let p = if w[8] == 2 { r.pick(&[MOST_PUT_OFF + 1, 16, u32::MAX]) } else { r.range(1, MOST_PUT_OFF) };
+    with_put_off(w, p)
+}
+
 /// One trace a task, long ones over many blocks, in caches of few and of many sets, all of them of so many ways.
 pub fn long_traces(seed: u64, ways: u32) -> [Vec<u32>; 2] {
     [16, 256].map(|sets| {
@@ -62,6 +68,9 @@ pub fn extreme(r: &mut Rng) -> Vec<u32> {
     w[8] = refresh;
     if refresh != 0 {
         (w[9], w[10], w[11]) = (r.pick(&[1, MAX_PERIOD]), r.pick(&[1, 65_535]), r.pick(&[0, 255]));
+    }
+    if refresh == 2 {
+        w[16] = r.pick(&[0, 1, MOST_PUT_OFF]);
     }
     w[12] = r.pick(&[1, 2, 5, 40]);
     match memory {

@@ -1,6 +1,26 @@
 //! Boards with faults: copies of a valid board with a byte too many or too few, and with words at and past the ends of their ranges.
-use crate::board::MAX_PERIOD;
-use crate::generate::Rng;
+use crate::board::{MAX_PERIOD, MOST_PUT_OFF};
+use crate::generate::{with_put_off, with_word, Rng};
+
+/// The same board with this form of refresh, and words 9 to 11 that fit it.
+fn with_refresh(w: &[u32], form: u32) -> Vec<u32> {
+    let mut v = with_word(w, 8, form);
+    for x in &mut v[9..12] {
+        *x = if form == 0 { 0 } else { (*x).max(1) };
+    }
+    v
+}
+
+/// Word 16 at and past the ends of its range, with the forms of refresh that the board does not have.
+fn put_off_in_other_forms(w: &[u32]) -> Vec<(String, Vec<u32>)> {
+    let mut out = vec![];
+    for form in (0..3).filter(|&form| form != w[8]) {
+        for p in [0, 1, MOST_PUT_OFF, MOST_PUT_OFF + 1, u32::MAX] {
+            out.push((format!("h8_{form}_h16_{p}"), with_put_off(&with_refresh(w, form), p)));
+        }
+    }
+    out
+}
 
 /// Damaged copies of a valid board: (name, bytes).
 pub fn damaged(r: &mut Rng, w: &[u32], level: u32) -> Vec<(String, Vec<u8>)> {
@@ -8,11 +28,7 @@ pub fn damaged(r: &mut Rng, w: &[u32], level: u32) -> Vec<(String, Vec<u8>)> {
     let bytes = |w: &[u32]| w.iter().flat_map(|x| x.to_le_bytes()).collect::<Vec<u8>>();
     let mut put = |name: String, v: &[u32]| out.push((name, bytes(v)));
     let (n, q, g) = (w[1] as usize, w[2] as usize, w[3] as usize);
-    let set = |at: usize, x: u32| {
-        let mut v = w.to_vec();
-        v[at] = x;
-        v
-    };
+    let set = |at: usize, x: u32| with_word(w, at, x);
     // header: values at and beyond each limit; before change 2 a word 15 of 6 is refused as others are
     let ways: &[u32] = if level >= 2 { &[0, 1, 2, 3, 4, 5, 6, 7, 8, 9, 16] } else { &[0, 1, 2, 3, 4, 5, 7, 8, 9, 16] };
     let limits: [&[u32]; 20] = [
@@ -42,6 +58,11 @@ pub fn damaged(r: &mut Rng, w: &[u32], level: u32) -> Vec<(String, Vec<u8>)> {
             if w[i] != x {
                 put(format!("h{i}_{x}"), &set(i, x));
             }
+        }
+    }
+    if level >= 3 {
+        for (name, v) in put_off_in_other_forms(w) {
+            put(name, &v);
         }
     }
     // length

@@ -5,7 +5,7 @@
 use driver::boards::*;
 use driver::library::{self, Reply, LATE, RECORD, REFUSED, SPENT, VALUE};
 use driver::{orders, RULES};
-use oracle::board::{check_board, Refusal};
+use oracle::board::{check_board, Refusal, MOST_PUT_OFF};
 use oracle::damage::damaged;
 use oracle::generate::*;
 use oracle::literal::{self, Answer, Figure, Model, Nat};
@@ -66,6 +66,8 @@ struct Tally {
     fewer_passes: usize,
     /// Boards with a cache that are not refused, by their word 15.
     ways: BTreeMap<u32, usize>,
+    /// Boards with distributed refresh that are not refused, by their word 16, and those of them with another answer or other times than with 0.
+    put_off: BTreeMap<u32, [usize; 2]>,
 }
 
 impl Tally {
@@ -77,6 +79,26 @@ impl Tally {
             }
         }
     }
+
+    /// Counts a board that is not refused by its ways, and by the refreshes that it puts off.
+    fn count(&mut self, w: &[u32]) {
+        let Ok(b) = check_board(w, RULES) else { return };
+        if b.memory() == 2 {
+            *self.ways.entry(w[15]).or_default() += 1;
+        }
+        if b.refresh() == 2 {
+            let [boards, changed] = self.put_off.entry(w[16]).or_default();
+            *boards += 1;
+            *changed += (w[16] != 0 && of_fast(w) != of_fast(&with_put_off(w, 0))) as usize;
+        }
+    }
+}
+
+/// What `fast` answers with room for 64 tasks, and the times that it leaves.
+fn of_fast(w: &[u32]) -> (Answer, Vec<u32>) {
+    let mut times = vec![0; 64];
+    let answer = fast::analyse(w, &mut times, &mut vec![0; 4352], &mut vec![Figure::default(); 64], RULES);
+    (answer, times)
 }
 
 fn refused(e: Refusal) -> Reply {
@@ -313,9 +335,7 @@ fn try_page(t: &mut Tally, program: &str, input: &[u8]) {
 
 fn try_board(t: &mut Tally, r: &mut Rng, program: &str, w: &[u32]) {
     t.boards += 1;
-    if check_board(w, RULES).is_ok_and(|b| b.memory() == 2) {
-        *t.ways.entry(w[15]).or_default() += 1;
-    }
+    t.count(w);
     // the number of tasks that lengths and task numbers go by; a damaged board may claim any
     let n = w.get(1).copied().unwrap_or(0).min(64) as usize;
     try_settling(t, r, w, n, Settling::Analyse);
@@ -353,8 +373,9 @@ fn main() {
             try_board(&mut t, &mut r, &program, &w);
         }
         if k % 40 == 0 {
-            let w = without_ways(&mut r, &w);
-            try_board(&mut t, &mut r, &program, &w);
+            for w in [without_ways(&mut r, &w), without_putting_off(&mut r, &w)] {
+                try_board(&mut t, &mut r, &program, &w);
+            }
         }
         if k % 250 == 0 {
             for (_, bytes) in damaged(&mut r, &w, RULES.level) {
@@ -378,6 +399,7 @@ fn main() {
             try_board(&mut t, &mut r, &program, &largest_edge_in_ways(seed + 7, bus, 8, ways));
         }
         try_board(&mut t, &mut r, &program, &largest_edge_in_ways(seed + 8, bus, 1, WAYS[bus as usize]));
+        try_board(&mut t, &mut r, &program, &largest_edge_put_off(seed + 9, 2, bus, 8, MOST_PUT_OFF));
     }
     for w in WAYS.iter().flat_map(|&ways| long_traces(seed, ways)) {
         try_board(&mut t, &mut r, &program, &w);
@@ -406,6 +428,7 @@ fn main() {
         println!("answers of {call}: {answers:?}");
     }
     println!("boards with a cache that are not refused, by word 15: {:?}", t.ways);
+    println!("boards with distributed refresh that are not refused, by word 16, and those with another answer or other times than with 0: {:?}", t.put_off);
     println!("in order beside analyse: {} boards not spent, {} of them with fewer passes", t.settled_twice, t.fewer_passes);
     println!("{} boards, {} calls, {} pages, {} differences", t.boards, t.calls, t.pages, t.differences);
     std::process::exit((t.differences != 0) as i32);

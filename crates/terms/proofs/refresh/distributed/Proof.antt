@@ -13,16 +13,21 @@ use Rattle.terms.proofs.refresh.distributed.Tie as tie
 
 returns : tie.Need-returns
 returns c =
-    let p = c .before in
-    distributed-is _ _ _ (p .before .before .before .before .before .time .ensures .0)
-    (p .before .before .before .wide .ensures .0 ∙ p .before .before .before .before .refresh-interval .ensures .0)
-    (p .before .wide2 .ensures .0 ∙ p .before .before .refresh-rows .ensures .0)
-    (p .ceil-div .ensures .0) (p .before .before .before .before .before .before .before .before .pre .1) (c .smaller .ensures)
+    let rows = c .before .before .before .before in
+    distributed-is _ _ _ (rows .before .before .before .before .time .ensures .0)
+    (rows .before .before .wide .ensures .0 ∙ rows .before .before .before .refresh-interval .ensures .0)
+    (rows .wide2 .ensures .0 ∙ rows .before .refresh-rows .ensures .0)
+    (c .before .ceil-div .ensures .0) (c .before .before .wide3 .ensures .0 ∙ c .before .before .before .put-off .ensures .0)
+    (rows .before .before .before .before .before .before .before .pre .1) (c .smaller .ensures)
 
 pub distributed-spec : {M : Type 1} → statement M
 distributed-spec =
     tie.close
     (tie.spec (λ c κs. search needs) (λ c κs. search needs) (λ c κs. search needs) (λ c κs. search needs) (λ c κs. search needs)
+    (λ c κs. search needs) (λ c κs. search needs)
     (λ c. product-fits latestTime mostRefreshRows (omega arith) (omega arith) (lit< tt))
-    (λ c κs. omega (arith, product-bound {x = c .before .before .before .before .time .result} {y = c .wide2 .result} latestTime mostRefreshRows (omega arith) (omega arith)))
+    (λ c κs. let rows = c .before .before in
+    omega (arith, product-bound {x = rows .before .before .before .before .time .result} {y = rows .wide2 .result} latestTime mostRefreshRows (omega arith) (omega arith)))
+    (λ c. let rows = c .before .before .before in
+    omega (arith, product-bound {x = rows .before .before .before .before .time .result} {y = rows .wide2 .result} latestTime mostRefreshRows (omega arith) (omega arith)))
     (λ c κs. search needs) returns)
