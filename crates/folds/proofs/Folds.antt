@@ -127,6 +127,9 @@ sumWhere-rise test test' f g n m h all =
 pub sumWhere-bound : (test : ℕ → Bool) (f : ℕ → ℕ) (n m : ℕ) → ((k : ℕ) → k < n → f k ≤ m) → sumWhere test f n ≤ n * m
 sumWhere-bound test f n m all = sumTo-bound _ n m (λ k h. onlyIf-bound (test k) (all k h))
 
+pub sumWhere-zero : (test : ℕ → Bool) (f : ℕ → ℕ) (n : ℕ) → ((k : ℕ) → k < n → f k ≡ 0) → sumWhere test f n ≡ 0
+sumWhere-zero test f n all = omega (arith, sumWhere-bound test f n 0 (λ k h. omega (arith, all k h)))
+
 -- ---- `maxTo`
 
 pub maxTo-none : (f : ℕ → ℕ) → maxTo f 0 ≡ 0

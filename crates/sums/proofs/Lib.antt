@@ -2,6 +2,8 @@
 pub mod Rising
 pub mod TimesRead
 pub mod SixParts
+pub mod PutOff
+pub mod ZeroTimes
 pub mod Numbers
 pub mod Chains
 pub mod Bounds
