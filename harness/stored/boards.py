@@ -61,3 +61,11 @@ def draws():
 
 K1 = board(2, [(1, 100, 100, [[(0, 2 << 16), (1, READ + (3 << 16) + 32768)]]), (2, 60, 60, [[(2, WRITE + (4 << 16) + 32769)]])], bus=(3, 1), access=5, limit=100)
 assert K1[32:] == [0, 1, 2, 131072, 268664832, 537165825]
+K8 = edit(K1, (5, 4), (8, 2), (9, 20), (10, 1), (11, 3))
+
+
+def few_tasks(n, last, memory, bus, refresh):
+    """The first n of three tasks, on core 1, on core 2 and on the core `last`."""
+    turn = [(0, 2 << 16), (1, READ + (2 << 16) + 32768), (0, 1 << 16)]
+    two = [turn + turn[:1], [(2, WRITE + (9 << 16) + 32769)]]
+    return board(3, [(1, 120, 120, [turn]), (2, 150, 150, [turn[1:]]), (last, 400, 400, two)][:n], memory, bus, refresh, 5, 100)

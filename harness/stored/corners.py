@@ -1,5 +1,5 @@
 """K1 to K8 and corners, for the program by files."""
-from stored.boards import EXECUTE, K1, READ, WRITE, board, edit, executes
+from stored.boards import EXECUTE, K1, K8, READ, WRITE, board, edit, executes
 
 
 def corners():
@@ -21,7 +21,7 @@ def corners():
         'k6_bus_1': edit(K1, (5, 1), (6, 0)),
         'k6_bus_2': edit(K1, (5, 2), (6, 0)),
         'k7': edit(K1, (5, 4)),
-        'k8': edit(K1, (5, 4), (8, 2), (9, 20), (10, 1), (11, 3)),
+        'k8': K8,
         'one_task': alone(),
         'time_equal_to_deadline': alone(deadline=13),
         'late_by_one': alone(deadline=12),

@@ -16,6 +16,10 @@ def text(words):
     return ' '.join('%d*%d' % (x, n) if n > 7 else ' '.join([str(x)] * n) for x, n in runs)
 
 
+def distinct(boards):
+    return list({text(words): words for words in boards}.values())
+
+
 def in_blocks(groups):
     """The groups of lines, with lines of dots so that none goes over a block's end."""
     out = ''

@@ -7,6 +7,13 @@ from stored.orders import orders
 from stored.reference import bytes_of, words_of
 
 
+def refreshed(folder):
+    """The short ones of the drawn boards with distributed refresh."""
+    names = sorted(f for f in os.listdir(folder) if f.startswith('v_') and f.endswith('.board'))
+    boards = [words_of(open(os.path.join(folder, name), 'rb').read()) for name in names]
+    return [words for words in boards if words[8] == 2 and len(words) < 400]
+
+
 def with_full_sets(content, ways):
     """The same board in a cache of two sets of so many ways, with periods and deadlines for the accesses that it then has."""
     words = words_of(content)

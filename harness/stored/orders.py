@@ -1,7 +1,7 @@
 """Passes in order: boards and lists for them, and the calls made on each."""
 import itertools
 
-from stored.boards import K1, READ, TOP, WRITE, board, edit, executes
+from stored.boards import K1, TOP, WRITE, board, edit, executes, few_tasks
 from stored.calls import analyse, in_order, lent
 from stored.corners import corners
 from stored.refusals import FAULTS
@@ -24,21 +24,14 @@ def no_orders(n):
 
 def order_boards():
     """K1 and boards of three tasks, one or two for each bus; on most of them the passes depend on the order."""
-    turn = [(0, 2 << 16), (1, READ + (2 << 16) + 32768), (0, 1 << 16)]
-    last = [turn + turn[:1], [(2, WRITE + (9 << 16) + 32769)]]
-
-    def three(core, memory, bus, refresh):
-        """The last task is on this core."""
-        return board(3, [(1, 120, 120, [turn]), (2, 150, 150, [turn[1:]]), (core, 400, 400, last)], memory, bus, refresh, 5, 100)
-
     writes = [(0, WRITE + (4 << 16) + 32768), (1, 5 << 16), (2, WRITE + (5 << 16) + 32768), (3, WRITE + (5 << 16) + 32768)]
     return [
         K1,
-        three(3, (0, 0, 0), (0, 0), (2, 50, 3, 2)),
-        three(1, (2, 2, 0), (1, 0), (2, 50, 3, 2)),
-        three(3, (2, 2, 0), (2, 0), (1, 200, 2, 3)),
-        three(3, (0, 0, 0), (3, 2), (2, 50, 3, 2)),
-        three(1, (1, 1, 0), (4, 2), (1, 200, 2, 3)),
+        few_tasks(3, 3, (0, 0, 0), (0, 0), (2, 50, 3, 2)),
+        few_tasks(3, 1, (2, 2, 0), (1, 0), (2, 50, 3, 2)),
+        few_tasks(3, 3, (2, 2, 0), (2, 0), (1, 200, 2, 3)),
+        few_tasks(3, 3, (0, 0, 0), (3, 2), (2, 50, 3, 2)),
+        few_tasks(3, 1, (1, 1, 0), (4, 2), (1, 200, 2, 3)),
         # three numbers of passes in the six orders
         board(3, [(1, 220, 220, [writes]), (2, 189, 189, [[(0, 5 << 16)]]), (3, 126, 126, [[(0, 5 << 16), (1, 0), (2, 3 << 16)]])],
               bus=(1, 0), refresh=(2, 56, 2, 2), access=8, limit=100),

@@ -1,6 +1,6 @@
 """Caches of several ways: their boards, and the calls made on each."""
 from stored.boards import K1, READ, WAYS, WRITE, board, cache, code_in, data_in, edit, executes
-from stored.calls import analyse, analyse_of_3, figures_of_3, figures_of_64, gammas, in_order, lent, page, weigh
+from stored.calls import analyse, analyse_of_3, figures_of_3, figures_of_64, gammas, in_order, lent, page, weighs
 from stored.orders import orders
 from stored.reference import ask
 
@@ -67,7 +67,6 @@ def way_cases():
     cases = [(words, [figures_of_64(words), gammas(words), page(words)]) for words in boards]
     for words in [*small_way_boards(), *fewer_ways().values()]:
         held = lent(words)
-        zeros, caps = [0] * words[1], [words[22 + 5 * k] + 1 for k in range(words[1])]
         calls = [analyse('4', *held), figures_of_3(words, *held), analyse_of_3('7', *held), gammas(words)]
-        cases.append((words, calls + [weigh(words, words[1], times) for times in (zeros, caps)] + in_order(words, orders(words[1])[-1:])))
+        cases.append((words, calls + weighs(words, 'zeros', 'caps') + in_order(words, orders(words[1])[-1:])))
     return cases
