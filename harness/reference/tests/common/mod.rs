@@ -18,14 +18,13 @@ pub fn with(w: &[u32], set: &[(usize, u32)]) -> Vec<u32> {
     v
 }
 
-/// The page of an input, by `literal`, `fast` and `plain` alike.
+/// The page of an input, by `literal`, `fast` and both forms of `plain` alike.
 pub fn agree(bytes: &[u8], rules: Rules) -> String {
-    let a = page::page(bytes, rules);
-    let b = page::page_with(bytes, &mut |w, t, s, f| fast::analyse(w, t, s, f, rules));
-    let c = page::page_with(bytes, &mut |w, t, s, f| plain::analyse(w, t, s, f, rules));
-    assert_eq!(a, b);
-    assert_eq!(a, c);
-    a
+    let page = page::page(bytes, rules);
+    for analyse in [fast::analyse, plain::analyse, plain::analyse_tested] {
+        assert_eq!(page::page_with(bytes, &mut |w, t, s, f| analyse(w, t, s, f, rules)), page);
+    }
+    page
 }
 
 /// The answer of a call with room for 64 tasks, and what it leaves in times and table.
