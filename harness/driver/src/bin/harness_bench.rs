@@ -1,9 +1,9 @@
 //! harness_bench [ROUNDS]: the static library beside the reference, in one run: `plain with tests` (plain 64-bit arithmetic) and `fast` (tuned);
-//! Analyse in order also beside the library's own Analyse.
+//! Analyse in order also beside the library's own Analyse, and with refreshes put off also beside the library with none.
 //! Each line has the product's time, then each other's with the ratio; best of the rounds, taken in turn, buffers not cleared in between.
 use driver::library::{self, RECORD};
 use driver::{orders, RULES};
-use oracle::board::check_board;
+use oracle::board::{check_board, MOST_PUT_OFF};
 use oracle::generate::*;
 use oracle::literal::{Answer, Figure};
 use oracle::{fast, plain};
@@ -65,20 +65,35 @@ fn analyses(rounds: usize, w: &[u32]) -> [f64; 3] {
     race(rounds, [&mut || keep(x.product(w)), &mut || keep(y.plain(w)), &mut || keep(z.fast(w))])
 }
 
-/// Microseconds of a whole Analyse in order: the product, its own Analyse, `plain with tests` and `fast` in that order. Each run of the product
-/// comes after one of the reference, so that neither finds the figures of the board just made by the same code.
+/// Microseconds of two runs of the product, of `plain with tests` and of `fast`. Each run of the product comes after one of the reference, so that
+/// neither finds the figures of the board just made by the same code.
+fn race_in_turn(rounds: usize, [product, other, plain, fast]: [&mut dyn FnMut(); 4]) -> [f64; 4] {
+    let [product, plain, other, fast] = race(rounds, [product, plain, other, fast]);
+    [product, other, plain, fast]
+}
+
+/// Microseconds of a whole Analyse in order: the product, its own Analyse, `plain with tests` and `fast` in that order.
 fn analyses_in_order(rounds: usize, w: &[u32], order: &[u32]) -> [f64; 4] {
     let (mut x, mut y, mut own, mut z) = (Buffers::new(), Buffers::new(), Buffers::new(), Buffers::new());
-    let [product, plain, analyse, fast] = race(
+    race_in_turn(
         rounds,
         [
             &mut || keep(x.product_in_order(w, order)),
-            &mut || keep(y.plain_in_order(w, order)),
             &mut || keep(own.product(w)),
+            &mut || keep(y.plain_in_order(w, order)),
             &mut || keep(z.fast_in_order(w, order)),
         ],
-    );
-    [product, analyse, plain, fast]
+    )
+}
+
+/// Microseconds of a whole Analyse of a board that puts refreshes off: the product, the product where none is, `plain with tests`, `fast`.
+fn analyses_put_off(rounds: usize, w: &[u32]) -> [f64; 4] {
+    let none = with_put_off(w, 0);
+    let (mut x, mut y, mut own, mut z) = (Buffers::new(), Buffers::new(), Buffers::new(), Buffers::new());
+    race_in_turn(
+        rounds,
+        [&mut || keep(x.product(w)), &mut || keep(own.product(&none)), &mut || keep(y.plain(w)), &mut || keep(z.fast(w))],
+    )
 }
 
 fn line(what: &str, times: &[f64]) -> f64 {
@@ -92,9 +107,7 @@ fn line(what: &str, times: &[f64]) -> f64 {
 
 /// The same board with this pass limit.
 fn limited(w: &[u32], limit: u32) -> Vec<u32> {
-    let mut v = w.to_vec();
-    v[12] = limit;
-    v
+    with_word(w, 12, limit)
 }
 
 /// Times of one pass: the differences of two runs with different limits, all spent.
@@ -171,6 +184,32 @@ fn several_ways(rounds: usize) {
     println!("whole Analyse, caches of several ways: the product, `plain with tests`, `fast`");
     for ways in [1, 2, 4, 8] {
         whole(rounds, &format!("  largest, bus 2, ways {ways}"), &largest_edge_in_ways(77, 2, 8, ways));
+    }
+}
+
+/// A board that climbs, with the refreshes of the largest boards, eight of them put off.
+fn climbing_put_off(bus: u32) -> Vec<u32> {
+    let mut w = climbing_board(64, 8, 20_000, bus, 1_000_000);
+    w[8..12].copy_from_slice(&REFRESH_OF_LARGEST);
+    with_put_off(&w, MOST_PUT_OFF)
+}
+
+/// Passes with eight refreshes put off, one and all, beside the product's own with none and beside the reference.
+fn put_off(rounds: usize) {
+    println!("eight refreshes put off, one pass of 64 tasks on 8 cores: the product, itself with none, `plain with tests`, `fast`");
+    for bus in 0..5 {
+        let w = climbing_put_off(bus);
+        line(&format!("  bus {bus}, many short times"), &per_pass(&w, 500, 2_500, |w| analyses_put_off(rounds.min(9), w)));
+        let w = largest_edge_put_off(77, 2, bus, 8, MOST_PUT_OFF);
+        let least = passes(&w).min(passes(&with_put_off(&w, 0)));
+        let most = least.saturating_sub(1).max(4) as u32;
+        line(&format!("  bus {bus}, largest board"), &per_pass(&w, 2, most, |w| analyses_put_off(rounds, w)));
+    }
+    println!("eight refreshes put off, whole Analyse (passes; with none): the same four");
+    for bus in 0..5 {
+        let w = largest_edge_put_off(77, 2, bus, 8, MOST_PUT_OFF);
+        let what = format!("  largest, bus {bus}, memory 2, passes {}; {}", passes(&w), passes(&with_put_off(&w, 0)));
+        line(&what, &analyses_put_off(rounds, &w));
     }
 }
 
@@ -251,4 +290,5 @@ fn main() {
     println!("  whole Analyse of 5,000, 10,000, 20,000 passes: {:.0} {:.0} {:.0}", climbs[0], climbs[1], climbs[2]);
     in_order(rounds);
     several_ways(rounds);
+    put_off(rounds);
 }
