@@ -1,5 +1,5 @@
--- K1 to K11, the worked examples of document 01, and small examples of document 02's requests (K1 in a chosen order, caches with several ways, K8 with refreshes put off), as one
--- theorem about the definitions that the calls' contracts cite, by computation.
+-- K1 to K11, the worked examples of document 01, and small examples of document 02's requests (K1 in a chosen order, caches with several ways, K8 with
+-- refreshes put off), as one theorem about the definitions that the calls' contracts cite, by computation.
 -- Assumes nothing.
 use Prim.Native.Nat.{ℕ, suc, _/_, _%_}
 use mathlib.Core.List.{List, [], _∷_, _++_, map}
