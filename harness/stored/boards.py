@@ -31,6 +31,8 @@ def works_at(b): return fetches_at(b) + b[3]
 def executes(*fetches): return [(m, EXECUTE) for m in fetches]
 
 
+# words 5 and 6 with every bus
+BUSES = ((0, 0), (1, 0), (2, 0), (3, 2), (4, 1))
 # what word 15 can be with a cache, and what it cannot be
 WAYS = (0, 1, 2, 4, 8)
 NO_WAYS = (3, 5, 6, 7, 9, 15, 16, 17, 32, 256, 1 << 16, 1 << 31, TOP)

@@ -129,3 +129,10 @@ def numbers(words):
 
 def page(words):
     return '5', ask(words)
+
+
+def all_calls(words):
+    """What each call answers, whether it refuses the board or not."""
+    held = lent(words)
+    calls = [analyse('4', *held), figures_of_3(words, *held), analyse_of_3('7', *held), page(words), overhead(words, 1, 2)]
+    return calls + weighs(words, 'halves') + in_order(words, [[2, 1]])

@@ -1,16 +1,15 @@
 """Refreshes that are put off: their boards, and the calls made on each."""
-from stored.boards import K8, LONGEST, TOP, board, edit, executes, few_tasks
-from stored.calls import analyse, analyse_of_3, figures_of_3, in_order, lent, overhead, page, verdict, weighs
+from stored.boards import BUSES, K8, LONGEST, TOP, board, edit, executes, few_tasks
+from stored.calls import all_calls, analyse, analyse_of_3, in_order, lent, page, verdict, weighs
 from stored.files import distinct
 from stored.orders import orders
-from stored.reference import ask
+from stored.reference import last_time, passes
 from stored.refusals import FAULTS
 
 # what word 16 can be with distributed refresh, and what it cannot be
 PUT_OFF = range(9)
 NO_PUT_OFF = (9, 16, 256, 1 << 16, 1 << 31, TOP)
 
-BUSES = ((0, 0), (1, 0), (2, 0), (3, 2), (4, 1))
 MEMORIES = ((0, 0, 0), (1, 1, 0), (2, 2, 0))
 THREE_ROWS = (2, 50, 3, 2)
 ONE_AND_P = (2, LONGEST, 1, 1)  # one refresh within any time above 0, and those put off
@@ -49,10 +48,6 @@ def few_accesses():
             yield put_off(words, p)
 
 
-def passes(words): return int(ask(words)[0].split()[2])
-def last_time(words): return int(ask(words)[-1].split()[2])
-
-
 def deadline_edges():
     """Boards whose last task has its time as its deadline, and the same with one refresh more put off, by which it is one cycle late."""
     for bus in BUSES:
@@ -71,13 +66,6 @@ def limit_edges():
         falling = next(p for p in range(8) if needed[p] > needed[p + 1])
         for p in (rising, falling):
             yield from (put_off(edit(words, (12, min(needed[p:p + 2]))), x) for x in (p, p + 1))
-
-
-def all_calls(words):
-    """What each call answers, whether it refuses the board or not."""
-    held = lent(words)
-    calls = [analyse('4', *held), figures_of_3(words, *held), analyse_of_3('7', *held), page(words), overhead(words, 1, 2)]
-    return calls + weighs(words, 'halves') + in_order(words, [[2, 1]])
 
 
 def put_off_corners():

@@ -26,3 +26,7 @@ def oracle(content, *words):
 def ask(board, *words):
     """The lines that the reference prints of a board."""
     return oracle(bytes_of(board), *words).splitlines()
+
+
+def passes(board): return int(ask(board)[0].split()[2])
+def last_time(board): return int(ask(board)[-1].split()[2])
