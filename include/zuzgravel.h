@@ -20,7 +20,7 @@
  *   ZUZGRAVEL_SPENT    2
  *   ZUZGRAVEL_REFUSED  3    the row of the refusal table     the place
  *
- * Stack that a call needs, on x86-64: 52 KiB for zuzgravel_figures, zuzgravel_analyse and zuzgravel_analyse_in_order, 68 KiB for
+ * Stack that a call needs, on x86-64: 72 KiB for zuzgravel_figures, zuzgravel_analyse and zuzgravel_analyse_in_order, 88 KiB for
  * zuzgravel_overhead and zuzgravel_weigh. `harness/stack` measures it; some 3 KiB of each are for the dynamic linker, which may have to
  * bind memset and memcpy, the only functions of C that are called.
  */
@@ -40,10 +40,12 @@ extern "C" {
 #define ZUZGRAVEL_REFUSED 3u
 
 /*
- * Words of one record of the figures table, in this order: core, period T, deadline D, PD, MD, and the evicting cache blocks as eight
- * words, by their sets: set s, of any number of ways, is bit s mod 32 (bit 0 lowest) of word 5 + s / 32.
+ * Words of one record of the figures table, in this order: core, period T, deadline D, PD, MD, then the evicting cache blocks as eight
+ * words a cache, by their sets. Set s, of any number of ways, is bit s mod 32 (bit 0 lowest) of word 5 + s / 32 for the code cache, and
+ * of word 13 + s / 32 for the data cache. Where the board has one cache for both (memory 2), its sets are in words 5 to 12, and words
+ * 13 to 20 are 0; without a cache all sixteen are.
  */
-#define ZUZGRAVEL_RECORD_WORDS 13u
+#define ZUZGRAVEL_RECORD_WORDS 21u
 
 /* Words of scratch that zuzgravel_analyse and zuzgravel_analyse_in_order ask for with n tasks. */
 #define ZUZGRAVEL_SCRATCH_WORDS(n) ((size_t)(n) * (size_t)(n) + 4u * (size_t)(n))

@@ -39,6 +39,12 @@ NO_WAYS = (3, 5, 6, 7, 9, 15, 16, 17, 32, 256, 1 << 16, 1 << 31, TOP)
 
 
 def cache(sets, ways=0): return 2, sets, 0, ways
+def caches(code, data, ways=0): return 3, code, data, ways
+
+
+def placed(words, memory):
+    """The same board with another memory."""
+    return edit(words, (4, memory[0]), *enumerate(memory[1:], 13))
 
 
 def code_in(sets, s, k):

@@ -17,16 +17,17 @@ def task(number):
 
 
 def records(words):
-    """What a table has of each task: core, T, D, PD, MD and the words of ECB."""
+    """What a table has of each task: core, T, D, PD, MD, the words of ECB and those of the data's own."""
     fields = [line.split() for line in ask(words, 'figures')]
-    return [[int(x) for x in row[1:6]] + [int(x, 16) for x in row[6:10]] for row in fields]
+    return [[int(x) for x in row[1:6]] + [int(x, 16) for x in row[6:14]] for row in fields]
 
 
 def record_lines(table):
     return [' '.join(map(str, [k] + record)) for k, record in enumerate(table, 1)]
 
 
-MARK = [9] * 9  # a record before a call
+MARK = [9] * 13  # a record before a call
+SPARE = 20  # words after three records, one fewer than a record has
 
 
 def figures_of_64(words):
@@ -98,13 +99,13 @@ def analyse_of_3(call, answer, times, table):
 
 
 def analyse(call, answer, times, table):
-    """For C: the code and the numbers of the answer, the times, and the records as words, with 12 words to spare."""
+    """For C: the code and the numbers of the answer, the times, and the records as words, with words to spare."""
     kind, *fields = answer.split()
     code = ('ok', 'late', 'spent', 'bad').index(kind)
     numbers = {'ok': fields[1:2] + [0], 'late': fields, 'spent': [0, 0], 'bad': fields}[kind]
     def halves(record): return [half for s in record[5:] for half in ((9, 9) if record == MARK else (s % 2**32, s >> 32))]
     held = [x for record in table for x in record[:5] + halves(record)]
-    return call, [' '.join(map(str, [code, *numbers, '|', *times, '|', *held, *[9] * 12]))]
+    return call, [' '.join(map(str, [code, *numbers, '|', *times, '|', *held, *[9] * SPARE]))]
 
 
 def in_order(words, lists):

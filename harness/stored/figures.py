@@ -39,15 +39,17 @@ class Drawing:
             for _ in range(tasks)
         ], cores)
 
-    def crowded(self, sets, ways):
-        """Blocks of one or two sets, about as many as there are ways."""
+    def crowded(self, memory):
+        """Blocks of one or two sets, about as many as there are ways; in two caches, sets with the same numbers in both."""
         draw = self.draw
+        _, code_sets, data_sets, ways = memory
+        data_sets = data_sets or code_sets
         most = max(ways, 1)
-        places = [draw(sets) for _ in range(1 + draw(2))]
-        code = [code_in(sets, s, k) for s in places for k in range(most + draw(2))]
-        data = [data_in(sets, s, k) for s in places for k in range(1 + draw(most))]
+        places = [draw(min(code_sets, data_sets)) for _ in range(1 + draw(2))]
+        code = [code_in(code_sets, s, k) for s in places for k in range(most + draw(2))]
+        data = [data_in(data_sets, s, k) for s in places for k in range(1 + draw(most))]
         def traces(): return [[self.instruction(code, data) for _ in range(2 + draw(4 * most))] for _ in range(1 + draw(2))]
-        return self.make(cache(sets, ways), [(1 + draw(2), traces()) for _ in range(2 + draw(4))], 2)
+        return self.make(memory, [(1 + draw(2), traces()) for _ in range(2 + draw(4))], 2)
 
 
 def chosen_boards(make):
@@ -83,5 +85,5 @@ def figure_boards():
     boards += [make(memory, [(1, [executes(*range(0, 200, 3))]), (1, [long])]) for memory in ((0, 0, 0), (1, 3, 4), (2, 256, 0))]
 
     # caches of every number of ways
-    boards += [drawing.crowded(sets, ways) for sets in (1, 2, 3, 5, 16, 64, 65, 128, 255, 256) for ways in WAYS]
+    boards += [drawing.crowded(cache(sets, ways)) for sets in (1, 2, 3, 5, 16, 64, 65, 128, 255, 256) for ways in WAYS]
     return boards + [make(cache(32, 8), [(1, [executes(*range(0, 200, 3))]), (1, [long])])]

@@ -1,23 +1,23 @@
 """The boards of the reference's generator, with the calls made on each."""
 import os
 
-from stored.boards import edit
+from stored.boards import cache, caches, edit, placed
 from stored.calls import analyse, analyse_of_3, figures_of_3, in_order, lent, numbers, page, row, weighed
 from stored.orders import orders
 from stored.reference import bytes_of, words_of
 
 
-def refreshed(folder):
-    """The short ones of the drawn boards with distributed refresh."""
+def short_boards(folder):
+    """The short ones of the drawn boards."""
     names = sorted(f for f in os.listdir(folder) if f.startswith('v_') and f.endswith('.board'))
     boards = [words_of(open(os.path.join(folder, name), 'rb').read()) for name in names]
-    return [words for words in boards if words[8] == 2 and len(words) < 400]
+    return [words for words in boards if len(words) < 400]
 
 
-def with_full_sets(content, ways):
-    """The same board in a cache of two sets of so many ways, with periods and deadlines for the accesses that it then has."""
-    words = words_of(content)
-    return bytes_of(edit(words, (13, 2), (15, ways), *((at + 5 * k, 8 * words[at + 5 * k]) for k in range(words[1]) for at in (21, 22))))
+def with_full_sets(content, memory):
+    """The same board in caches of few sets, with periods and deadlines for the accesses that it then has."""
+    words = placed(words_of(content), memory)
+    return bytes_of(edit(words, *((at + 5 * k, 8 * words[at + 5 * k]) for k in range(words[1]) for at in (21, 22))))
 
 
 def generated(folder):
@@ -56,5 +56,7 @@ def generated(folder):
             calls.append(page(words))
         if calls:
             cases.append((words, calls))
-    several = {'%s_%d_ways' % (name, ways): with_full_sets(raw[name], ways) for name, ways in (('big_32', 4), ('bigone_2', 8))}
-    return cases, ordered, {**{name: raw[name] for name in files}, **several}
+    full = [('big_32', 4), ('bigone_2', 8)]
+    several = {'%s_%d_ways' % (name, ways): with_full_sets(raw[name], cache(2, ways)) for name, ways in full}
+    apart = {'%s_two_caches_%d_ways' % (name, ways): with_full_sets(raw[name], caches(2, 3, ways)) for name, ways in full}
+    return cases, ordered, {**{name: raw[name] for name in files}, **several, **apart}

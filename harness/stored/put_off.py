@@ -85,4 +85,5 @@ def put_off_cases(drawn):
         cases.append((words, [analyse('4', *lent(words))] + weighs(words, 'own 0', 'halves') + in_order(words, orders(words[1])[-1:])))
     cases += [(words, [analyse('4', *lent(words))] + weighs(words, 'zeros', 'caps')) for words in few_accesses()]
     cases += [(words, [analyse('4', *lent(words))]) for words in (*deadline_edges(), *limit_edges())]
-    return cases + [(words, [page(words)]) for words in (put_off(words, 1 + k % 8) for k, words in enumerate(drawn))]
+    refreshed = [words for words in drawn if words[8] == 2]
+    return cases + [(words, [page(words)]) for words in (put_off(words, 1 + k % 8) for k, words in enumerate(refreshed))]

@@ -2,7 +2,7 @@
 import os, struct, subprocess
 
 HARNESS = os.path.dirname(os.path.dirname(os.path.abspath(__file__)))
-LEVEL = '3'  # of the reference: the changes of document 02 that the library has
+LEVEL = '4'  # of the reference: the changes of document 02 that the library has
 
 
 def reference(program, *words, **given):

@@ -4,11 +4,12 @@ use Prim.Native.Nat.{ℕ, _+_}
 use mathlib.Core.Bool.{Bool, not, cond, _&&_}
 use lib.Dec.{eqb}
 use Rattle.board.specs.Layout.{kindOf, blockOf}
-use Rattle.trace.specs.Cache.{setOf}
+use Rattle.trace.specs.Caches.{placeIn}
+use Rattle.trace.specs.declared.cache.Cache.{Cache}
 
--- what it loads, as a slot's number, and whether it touches set s of c
+-- what it loads, as a slot's number, and whether it touches place s of the cache that its block lies in
 unfoldable pub readSlot : ℕ → ℕ
 readSlot w = cond (eqb (kindOf w) 1) (blockOf w + 1) 0
 
-abbrev pub dataTouches : ℕ → ℕ → ℕ → Bool
-dataTouches c w s = not (eqb (kindOf w) 0) && eqb (setOf c (blockOf w)) s
+abbrev pub dataTouches : Cache → ℕ → ℕ → Bool
+dataTouches cache w s = not (eqb (kindOf w) 0) && eqb (placeIn cache (blockOf w)) s

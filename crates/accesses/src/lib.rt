@@ -1,11 +1,11 @@
-// The accesses of an instruction under a cache, one at a time. Each function tells what its slot makes of the blocks held and of the marks, and gives 1
-// where it uses the bus.
+// The accesses of an instruction under a cache, one at a time, each to the cache that its block lies in. Each function tells what its slot makes of the
+// blocks held and of the marks, and gives 1 where it uses the bus.
 use bitset::add_to;
 use board::work;
 use loads::mark_one;
 use loads::mark_ways;
 use trace::cache::Cache;
-use trace::cache::set_of;
+use trace::cache::place_of;
 ghost use mathlib.Core.Path.{_≡_};
 ghost use mathlib.Core.Bool.{_||_};
 ghost use Prim.Native.Nat.{ℕ, _+_, _≤_, _<_};
@@ -15,8 +15,7 @@ ghost use Rattle.folds.specs.Folds.{onlyIf};
 ghost use Rattle.bitset.specs.Bits.{member, wordsOf};
 ghost use Rattle.board.specs.Layout.{kindOf, blockOf};
 ghost use Rattle.entries.specs.Marks.{slotHeld, slotMarks, slotMissed};
-ghost use Rattle.trace.specs.Cache.{setOf};
-ghost use Rattle.trace.specs.Reciprocal.{SetDivisor};
+ghost use Rattle.trace.specs.Caches.{placeIn, Placing};
 ghost use Rattle.accesses.specs.Accesses.{readSlot, dataTouches};
 ghost use Rattle.loads.specs.Room.{Room};
 
@@ -31,11 +30,11 @@ pub fn mark_data(
     ecb: &mut [u64],
     marks: &mut [u32],
 ) -> u32
-    requires { ⌜ (SetDivisor (cache .sets) (cache .inverse)) × (Room base ways (now held) (now marks)) × (length (now ecb) ≡ 4) × (e < 2048) × (kindOf w ≤ 2) ⌝ }
-    ensures { λ r. ⌜ (r ≡ slotMissed base ways (setOf (cache .sets) (blockOf w)) (readSlot w) (now (held .entry)) + onlyIf (eqb (kindOf w) 2) 1)
-        × (now (held .exit) ≡ slotHeld base ways (setOf (cache .sets) (blockOf w)) (readSlot w) e (now (held .entry)))
-        × (now (marks .exit) ≡ slotMarks base ways (setOf (cache .sets) (blockOf w)) (readSlot w) e (now (held .entry)) (now (marks .entry)))
-        × (now (ecb .exit) ≡ wordsOf (λ (s : ℕ). member (now (ecb .entry)) s || dataTouches (cache .sets) w s)) × (r ≤ 1) ⌝ }
+    requires { ⌜ (Placing cache) × (Room base ways (now held) (now marks)) × (length (now ecb) ≡ 8) × (e < 2048) × (kindOf w ≤ 2) ⌝ }
+    ensures { λ r. ⌜ (r ≡ slotMissed base ways (placeIn cache (blockOf w)) (readSlot w) (now (held .entry)) + onlyIf (eqb (kindOf w) 2) 1)
+        × (now (held .exit) ≡ slotHeld base ways (placeIn cache (blockOf w)) (readSlot w) e (now (held .entry)))
+        × (now (marks .exit) ≡ slotMarks base ways (placeIn cache (blockOf w)) (readSlot w) e (now (held .entry)) (now (marks .entry)))
+        × (now (ecb .exit) ≡ wordsOf 8 (λ (s : ℕ). member (now (ecb .entry)) s || dataTouches cache w s)) × (r ≤ 1) ⌝ }
 {
     let kind = work::kind(w);
     match kind {
@@ -45,7 +44,7 @@ pub fn mark_data(
         }
         1 => mark_load(cache, ways, base, work::block(w), e, held, ecb, marks),
         _ => {
-            add_to(ecb, set_of(cache, work::block(w)));
+            add_to(ecb, place_of(cache, work::block(w)));
             marks[e] = 0;
             1
         }
@@ -63,13 +62,13 @@ pub fn mark_load(
     ecb: &mut [u64],
     marks: &mut [u32],
 ) -> u32
-    requires { ⌜ (SetDivisor (cache .sets) (cache .inverse)) × (Room base ways (now held) (now marks)) × (length (now ecb) ≡ 4) × (e < 2048) × (block < 65536) ⌝ }
-    ensures { λ r. ⌜ (r ≡ slotMissed base ways (setOf (cache .sets) block) (block + 1) (now (held .entry)))
-        × (now (held .exit) ≡ slotHeld base ways (setOf (cache .sets) block) (block + 1) e (now (held .entry)))
-        × (now (marks .exit) ≡ slotMarks base ways (setOf (cache .sets) block) (block + 1) e (now (held .entry)) (now (marks .entry)))
-        × (now (ecb .exit) ≡ wordsOf (λ (s : ℕ). member (now (ecb .entry)) s || eqb (setOf (cache .sets) block) s)) × (r ≤ 1) ⌝ }
+    requires { ⌜ (Placing cache) × (Room base ways (now held) (now marks)) × (length (now ecb) ≡ 8) × (e < 2048) × (block < 65536) ⌝ }
+    ensures { λ r. ⌜ (r ≡ slotMissed base ways (placeIn cache block) (block + 1) (now (held .entry)))
+        × (now (held .exit) ≡ slotHeld base ways (placeIn cache block) (block + 1) e (now (held .entry)))
+        × (now (marks .exit) ≡ slotMarks base ways (placeIn cache block) (block + 1) e (now (held .entry)) (now (marks .entry)))
+        × (now (ecb .exit) ≡ wordsOf 8 (λ (s : ℕ). member (now (ecb .entry)) s || eqb (placeIn cache block) s)) × (r ≤ 1) ⌝ }
 {
-    let s = set_of(cache, block);
+    let s = place_of(cache, block);
     add_to(ecb, s);
     if ways == 1 {
         mark_one(base, s, block, e, held, marks)

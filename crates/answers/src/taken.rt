@@ -1,6 +1,7 @@
 // What a call does once it is not refused.
 use crate::Answer;
 use board::MOST_SCRATCH;
+use figures::ECB_WORDS;
 use folds::index;
 use folds::wide;
 use settling::Passes;
@@ -59,7 +60,7 @@ pub fn sum(board: &[u32], times: &[u32], i: usize) -> u64
 {
     let n = index(board::fields::tasks(board));
     let mut words = [0u32; MOST_SCRATCH];
-    let mut sets = [0u64; 256];
+    let mut sets = [0u64; ECB_WORDS];
     scratch::prepare(board, n, &mut words, &mut sets);
     scratch::sum_of(board, n, &words, times, i - 1)
 }

@@ -1,10 +1,10 @@
--- For the code: records of a buffer, one set of four words each: how the code keeps sets.
+-- For the code: records of a buffer, a few words each: how the code keeps sets.
 -- Assumes nothing.
 use Prim.Native.Nat.{ℕ, _+_, _*_}
 use mathlib.Core.List.{List}
 use lib.ListN.{getD}
 use Rattle.folds.specs.Folds.{tabulate}
 
--- record q: the four words from 4q on
-abbrev pub recordAt : List ℕ → ℕ → List ℕ
-recordAt buffer q = tabulate (λ k. getD buffer (4 * q + k) 0) 4
+-- record q of n words each: those from n × q on
+abbrev pub recordAt : ℕ → List ℕ → ℕ → List ℕ
+recordAt n buffer q = tabulate (λ k. getD buffer (n * q + k) 0) n

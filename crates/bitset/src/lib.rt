@@ -1,5 +1,5 @@
-// Sets of numbers below 256, as the bits of four 64-bit words: s is bit s mod 64 (bit 0 lowest) of word floor(s/64).
-// The contracts hold for any four words.
+// Sets of numbers below 512, as the bits of eight 64-bit words: s is bit s mod 64 (bit 0 lowest) of word floor(s/64).
+// The contracts hold for any words.
 pub mod records;
 pub mod word;
 
@@ -14,16 +14,16 @@ ghost use Rattle.folds.specs.Folds.{countTo};
 ghost use Rattle.bitset.specs.Bits.{member, wordsOf};
 
 // The set with nothing in it.
-pub fn empty() -> [u64; 4]
-    ensures { λ r. ⌜ r ≡ wordsOf (λ (t : ℕ). false) ⌝ }
+pub fn empty() -> [u64; 8]
+    ensures { λ r. ⌜ r ≡ wordsOf 8 (λ (t : ℕ). false) ⌝ }
 {
-    [0u64; 4]
+    [0u64; 8]
 }
 
 // Adds s to a set that is lent.
 pub fn add_to(set: &mut [u64], s: usize)
-    requires { ⌜ (s < 256) × (length (now set) ≡ 4) ⌝ }
-    ensures { λ _. ⌜ now (set .exit) ≡ wordsOf (λ (t : ℕ). eqb t s || member (now (set .entry)) t) ⌝ }
+    requires { ⌜ (s < 512) × (length (now set) ≡ 8) ⌝ }
+    ensures { λ _. ⌜ now (set .exit) ≡ wordsOf 8 (λ (t : ℕ). eqb t s || member (now (set .entry)) t) ⌝ }
 {
     let i = s / 64;
     let w = set[i];
@@ -31,10 +31,19 @@ pub fn add_to(set: &mut [u64], s: usize)
 }
 
 // The numbers in a or in b.
-pub fn union(a: [u64; 4], b: [u64; 4]) -> [u64; 4]
-    ensures { λ r. ⌜ r ≡ wordsOf (λ (t : ℕ). member a t || member b t) ⌝ }
+pub fn union(a: [u64; 8], b: [u64; 8]) -> [u64; 8]
+    ensures { λ r. ⌜ r ≡ wordsOf 8 (λ (t : ℕ). member a t || member b t) ⌝ }
 {
-    [a[0] | b[0], a[1] | b[1], a[2] | b[2], a[3] | b[3]]
+    [
+        a[0] | b[0],
+        a[1] | b[1],
+        a[2] | b[2],
+        a[3] | b[3],
+        a[4] | b[4],
+        a[5] | b[5],
+        a[6] | b[6],
+        a[7] | b[7],
+    ]
 }
 
 // How many bits are set in both words.
@@ -44,7 +53,7 @@ fn ones_of_both(x: u64, y: u64) -> u32
     u64::count_ones(x & y)
 }
 
-// How many numbers are in both sets.
+// How many numbers are in both of two sets of four words, which hold numbers below 256.
 pub fn count_both(a: [u64; 4], b: [u64; 4]) -> u32
     ensures { λ r. ⌜ (r ≡ countTo (λ (s : ℕ). member a s && member b s) 256) × (r ≤ 256) ⌝ }
 {

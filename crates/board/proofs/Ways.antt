@@ -1,11 +1,10 @@
--- The ways of a cache: 1 .. 8.
+-- The ways of the caches: 1 .. 8.
 -- Assumes nothing.
 use Prim.Native.Nat.{ℕ, _≤_, _<_}
 use mathlib.Core.Bool.{true, false, true≢false}
 use mathlib.Core.List.{List}
 use mathlib.Core.Logic.{inl, inr}
 use mathlib.Core.Path.{_≡_, sym, _∙_}
-use native.Mathlib.Decide.{ℕ-discrete}
 use native.Mathlib.Omega.{arith}
 use borrow.Author.Tests.{ne-eqb}
 use lib.Dec.{eqb}
@@ -27,8 +26,7 @@ module _ (x : ℕ) where
 
 -- without a cache they are 1
 pub ways-range : (b : List ℕ) → Sound b → Between 1 8 (at.ways b)
-ways-range b s = go (ℕ-discrete (at.memory b) 2)
-  where
-    go : Dec (at.memory b ≡ 2) → Between 1 8 (at.ways b)
-    go (yes m) = let few = ways-few (word b 15) (s .ways m) in (omega arith, omega arith)
-    go (no n) = let none = s .noWays n in (omega arith, omega arith)
+ways-range b s = elim (le-or-lt 2 (at.memory b)) [
+  | inl m ↦ let few = ways-few (word b 15) (s .ways m) in (omega arith, omega arith)
+  | inr n ↦ let none = s .noWays n in (omega arith, omega arith)
+]

@@ -30,10 +30,10 @@ pub fn traces(board: &[u32]) -> u32
     board[2]
 }
 
-// 0 none, 1 scratchpad, 2 cache.
+// 0 none, 1 scratchpad, 2 one cache, 3 a code cache and a data cache.
 pub fn memory(board: &[u32]) -> u32
     requires { ⌜ Sound (now board) ⌝ }
-    ensures { λ r. ⌜ (r ≡ at.memory (now (board .entry))) × (r ≤ 2) ⌝ }
+    ensures { λ r. ⌜ (r ≡ at.memory (now (board .entry))) × (r ≤ 3) ⌝ }
 {
     board[4]
 }
@@ -126,15 +126,23 @@ pub fn held_data(board: &[u32]) -> u32
     board[14]
 }
 
-// c, the sets of a cache.
+// c, the sets of a cache, and of the code cache where data has its own.
 pub fn cache_sets(board: &[u32]) -> u32
-    requires { ⌜ (Sound (now board)) × (at.memory (now board) ≡ 2) ⌝ }
-    ensures { λ r. ⌜ (r ≡ at.cacheSets (now (board .entry))) × Between 1 256 r ⌝ }
+    requires { ⌜ (Sound (now board)) × (2 ≤ at.memory (now board)) ⌝ }
+    ensures { λ r. ⌜ (r ≡ at.cacheSets (now (board .entry))) × Between 1 at.mostSets r ⌝ }
 {
     board[13]
 }
 
-// The ways of a cache, where 0 stands for 1.
+// The sets of the data cache, where data has its own.
+pub fn data_sets(board: &[u32]) -> u32
+    requires { ⌜ (Sound (now board)) × (at.memory (now board) ≡ 3) ⌝ }
+    ensures { λ r. ⌜ (r ≡ at.dataSets (now (board .entry))) × Between 1 at.mostSets r ⌝ }
+{
+    board[14]
+}
+
+// The ways of each cache, where 0 stands for 1.
 pub fn ways(board: &[u32]) -> u32
     requires { ⌜ Sound (now board) ⌝ }
     ensures { λ r. ⌜ (r ≡ at.ways (now (board .entry))) × Between 1 8 r ⌝ }

@@ -15,6 +15,9 @@ pub const MOST_PUT_OFF: u32 = 8;
 // Blocks below it hold code, the others data; a scratchpad holds at most as many of each.
 pub const FIRST_DATA_BLOCK: u32 = 32768;
 
+// The most sets of a cache.
+pub const MOST_SETS: u32 = 256;
+
 // The tasks of the largest board, and the words of scratch for them.
 pub const MOST_TASKS: usize = 64;
 

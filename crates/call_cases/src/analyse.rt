@@ -7,11 +7,11 @@ use lines::print::end_line;
 use lines::print::print_field;
 use lines::print::print_fields;
 
-// The code and the two words of the answer, the six words of times, which were all 7, and the words of three records with 12 to spare, which were all 9.
+// The code and the two words of the answer, the six words of times, which were all 7, and the words of three records with 20 to spare, which were all 9.
 pub fn answer(board: &[u32]) {
     let mut times = [7u32; 6];
     let mut scratch = [0u32; 32];
-    let mut records = [9u32; 51];
+    let mut records = [9u32; 83];
     let mut answer = [0u64; 2];
     let code = zuzgravel_analyse(board, &mut times, &mut scratch, &mut records, &mut answer);
     print_reply(code, answer, &times, &records);
@@ -21,7 +21,7 @@ pub fn answer(board: &[u32]) {
 pub fn in_order<'a>(order: &'a [u32], board: &'a [u32]) {
     let mut times = [7u32; 6];
     let mut scratch = [0u32; 32];
-    let mut records = [9u32; 51];
+    let mut records = [9u32; 83];
     let mut answer = [0u64; 2];
     let code = zuzgravel_analyse_in_order(
         board,

@@ -5,6 +5,7 @@ use answers::Outcome;
 use answers::taken;
 use checks::check_analyse;
 use checks::check_figures;
+use figures::ECB_WORDS;
 use folds::index;
 use refusals::Verdict;
 ghost use mathlib.Core.Path.{_≡_};
@@ -26,7 +27,7 @@ pub fn analyse(
     room: usize,
     records: &mut usize,
     words: &mut [u32],
-    sets: &mut [u64; 256],
+    sets: &mut [u64; ECB_WORDS],
 ) -> Answer
     requires { ⌜ 256 ≤ length (now words) ⌝ }
     ensures { λ r. ⌜ (Counted (analyseRefusal (now (board .entry)) (length (now (times .entry))) (length (now (scratch .entry))) room)
@@ -44,7 +45,7 @@ pub fn figures(
     room: usize,
     records: &mut usize,
     words: &mut [u32],
-    sets: &mut [u64; 256],
+    sets: &mut [u64; ECB_WORDS],
 ) -> Outcome
     requires { ⌜ 256 ≤ length (now words) ⌝ }
     ensures { λ r. ⌜ (Counted (figuresRefusal (now (board .entry)) room)
@@ -72,7 +73,7 @@ pub fn begin(
     verdict: Verdict,
     scratch: &mut [u32],
     words: &mut [u32],
-    sets: &mut [u64; 256],
+    sets: &mut [u64; ECB_WORDS],
 ) -> usize
     requires { ⌜ (verdict ≡ Passed → Room (now board) (tasks (now board)) (now scratch)) × (256 ≤ length (now words)) ⌝ }
     ensures { λ r. ⌜ Begun (Prepared (now (board .entry)) (tasks (now (board .entry)))) (now (board .entry)) verdict r

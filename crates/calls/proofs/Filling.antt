@@ -33,7 +33,7 @@ use Rattle.folds.specs.Folds.{fillTo}
 use Rattle.refusals.specs.declared.Verdict.{Verdict}
 use Rattle.figures.specs.declared.Figure.{Figure}
 use Rattle.figures.specs.Figures.{figureOf}
-use Rattle.figures.specs.Survey.{Fillable}
+use Rattle.figures.specs.Survey.{ecbWords, Fillable}
 use Rattle.figures.proofs.Figure as T
 use Rattle.table.proofs.fill as fill
 use Rattle.answers.specs.Answers.{tableAfter}
@@ -46,7 +46,7 @@ abbrev pub Words : RattleType
 Words = Array u32 256
 
 abbrev pub SetWords : RattleType
-SetWords = Array u64 256
+SetWords = Array u64 ecbWords
 
 abbrev pub Fills : {M : Type 1} (𝓤 : URA M) (H : Heap 𝓤) (A : Atoms 𝓤) (at-mem : Memory → SProp 𝓤) (run : Routine → Fun 𝓤) → Contract 𝓤
 Fills 𝓤 H A at-mem run = tripleOf 𝓤 H A fill.signature (fill.spec 𝓤 H A at-mem run)

@@ -2,7 +2,7 @@
 --     fn f<'a>(board: &'a [u32], times: &mut [u32], scratch: &mut [u32], table: &mut [Figure], xs..) -> S {
 --         let mut n: usize = 0;
 --         let mut words = [0u32; 256];
---         let mut sets = [0u64; 256];
+--         let mut sets = [0u64; ECB_WORDS];
 --         let answer = work(board, times, scratch, table.len(), &mut n, &mut words, &mut sets, xs..);
 --         fill(board, n, &words, &sets, table);
 --         answer
@@ -67,6 +67,7 @@ use denote.Triple.Spec.{Meets, tripleOf}
 use denote.Triple.Walked.{says, onExit, walkOf, Walks, ends-at, walked, walk-meets}
 use Rattle.refusals.specs.declared.Verdict.{Verdict}
 use Rattle.figures.specs.declared.Figure.{Figure}
+use Rattle.figures.specs.Survey.{ecbWords}
 use Rattle.figures.proofs.Figure as T
 use Rattle.figures.proofs.Figure.Laws as T′
 use Rattle.table.proofs.fill as fill
@@ -84,12 +85,12 @@ use Rattle.calls.proofs.Work.{hands, returned, lasted}
 use Rattle.calls.proofs.Filling.{Words, SetWords, Fills, Filled, filled, to-fill, goes-fill}
 use Rattle.calls.proofs.Frame.{Locals, lendings, lendOperands, on-table, early, late, loads-all, lends-all, loads-lent}
 
--- both arrays at first
-abbrev zeros : List ℕ
-zeros = replicate 256 0
+-- an array of n words at first
+abbrev zeros : ℕ → List ℕ
+zeros n = replicate n 0
 
-abbrev zeroVal : Width → Val
-zeroVal w = arrayVal (replicate 256 (vint w 0))
+abbrev zeroVal : Width → ℕ → Val
+zeroVal w n = arrayVal (replicate n (vint w 0))
 
 -- the reference to what is in the local l
 abbrev lent : {X : Type 0} → ℕ → X → GName → RefT X
@@ -135,12 +136,12 @@ module _ (S : RattleType) (g : Buffers) (xs : List Extra) (Refuse : List ℕ →
 
     abbrev lateTys : List Ty
     lateTys =
-        tyInt w64 ∷ tyRef erased mut (tyInt w64) ∷ tyRef erased mut (tyArray (tyInt w32) 256) ∷ sliceTy (tyRef erased mut (tyInt w32)) ∷ tyRef erased mut (tyArray (tyInt w64) 256)
-        ∷ tyUnit ∷ tyRef erased imm (tyArray (tyInt w32) 256) ∷ sliceTy (tyRef erased imm (tyInt w32)) ∷ tyRef erased imm (tyArray (tyInt w64) 256)
+        tyInt w64 ∷ tyRef erased mut (tyInt w64) ∷ tyRef erased mut (tyArray (tyInt w32) 256) ∷ sliceTy (tyRef erased mut (tyInt w32)) ∷ tyRef erased mut (tyArray (tyInt w64) ecbWords)
+        ∷ tyUnit ∷ tyRef erased imm (tyArray (tyInt w32) 256) ∷ sliceTy (tyRef erased imm (tyInt w32)) ∷ tyRef erased imm (tyArray (tyInt w64) ecbWords)
         ∷ tyRef erased mut (pointee (T.the-row .written)) ∷ sliceTy (tyRef erased mut (pointee (T.the-row .written))) ∷ []
 
     abbrev ownTys : List Ty
-    ownTys = tyInt w64 ∷ tyArray (tyInt w32) 256 ∷ tyArray (tyInt w64) 256 ∷ σ ∷ []
+    ownTys = tyInt w64 ∷ tyArray (tyInt w32) 256 ∷ tyArray (tyInt w64) ecbWords ∷ σ ∷ []
 
     -- the MIR
     abbrev function : Fn
@@ -149,11 +150,11 @@ module _ (S : RattleType) (g : Buffers) (xs : List Extra) (Refuse : List ℕ →
       outlives = [];
       params = count (paramTys g) + (count (tys xs) + 2);
       locals = local σ valueLocal ∷ local (sliceTy (tyRef (named 0) imm (tyInt w32))) valueLocal ∷ (locals (paramTys g) ++ (local tableTy valueLocal ∷ (locals (tys xs)
-          ++ (local (tyInt w64) memorySlot ∷ local (tyArray (tyInt w32) 256) memorySlot ∷ local (tyArray (tyInt w64) 256) memorySlot ∷ local σ valueLocal ∷ (locals (tempTys g)
+          ++ (local (tyInt w64) memorySlot ∷ local (tyArray (tyInt w32) 256) memorySlot ∷ local (tyArray (tyInt w64) ecbWords) memorySlot ∷ local σ valueLocal ∷ (locals (tempTys g)
           ++ locals lateTys)))));
       body = seq (assign (place (early-at 0) []) (rvOpd (int w64 0)))
           (seq (assign (place (early-at 1) []) (repeat (int w32 0) 256))
-          (seq (assign (place (early-at 2) []) (repeat (int w64 0) 256))
+          (seq (assign (place (early-at 2) []) (repeat (int w64 0) ecbWords))
           (lendings (tys xs) ownTys g
           (seq (assign (place (late-at 0) []) (rvOpd (copy (place (count (paramTys g) + 2) (field 1 ∷ [])))))
           (seq (assign (place (late-at 1) []) (addrOf (place (early-at 0) [])))
@@ -216,7 +217,7 @@ module _ (S : RattleType) (g : Buffers) (xs : List Extra) (Refuse : List ℕ →
         -- `work`, the count, the words and the sets in the locals l₃, l₄ and l₅ being lent for ν₁, ν₂ and ν₃ under the names γ₁, γ₂ and γ₃
         module _ (ν₁ ν₂ ν₃ l₃ l₄ l₅ : ℕ) (γ₁ γ₂ γ₃ : GName) where
           abbrev h : Handed g xs
-          h = record { buffers = x; room = m; records = lent l₃ 0 γ₁; words = lent l₄ zeros γ₂; sets = lent l₅ zeros γ₃; extras = e }
+          h = record { buffers = x; room = m; records = lent l₃ 0 γ₁; words = lent l₄ (zeros 256) γ₂; sets = lent l₅ (zeros ecbWords) γ₃; extras = e }
 
           abbrev κw : Lfts (working g)
           κw = work-lfts xs g κs ν₁ ν₂ ν₃
@@ -235,7 +236,7 @@ module _ (S : RattleType) (g : Buffers) (xs : List Extra) (Refuse : List ℕ →
 
           -- what it leaves, and says of it
           abbrev left-items : Left g → Item 𝓤
-          left-items z = left xs 𝓤 g x (z .buffers) ⊛ ‵ (fres γ₁ (usize .coded .code (z .records))) ⊛ ‵ (lastList u32 (lent l₄ zeros γ₂) (z .words)) ⊛ ‵
+          left-items z = left xs 𝓤 g x (z .buffers) ⊛ ‵ (fres γ₁ (usize .coded .code (z .records))) ⊛ ‵ (lastList u32 (lent l₄ (zeros 256) γ₂) (z .words)) ⊛ ‵
               (fres γ₃ (SetWords .coded .code (z .sets)))
 
           abbrev Leaves : Answer → Left g → SProp 𝓤
@@ -289,12 +290,12 @@ module _ (S : RattleType) (g : Buffers) (xs : List Extra) (Refuse : List ℕ →
               pass1 ! (init ! 33 refl (tt, (tt, (record { fits = fit .1 .0 .0 }, tt)))) $ move ! (32 ∷ []) $ pass-all ! (tys xs) βX (machines xs e) _ (fit .1 .1) $ pass0 ! $
               -- the count, the words and the sets; the buffers are lent on
               assigns ! (of-opd ! (lit ! tt)) (early Z ! 0 (stop !)) (init ! 31 refl (tt, record { fits = lit< tt })) $
-              use0 W (‵ (Words .own zeros (zeroVal w32 ∷ []))) (zero-array 𝓤 H A W w32 256 (lit< tt)) $
-              peeks ! Words (Is Words) (shows 𝓤 H A Words) zeros (zeroVal w32 ∷ []) (λ is-w. assigns ! (rep ! 256 (lit ! tt)) (early Z ! 1 (stop !))
-              (init ! 30 refl (array-fits 𝓤 H A W w32 256 zeros (zeroVal w32) is-w)) $
-              use0 W (‵ (SetWords .own zeros (zeroVal w64 ∷ []))) (zero-array 𝓤 H A W w64 256 (lit< tt)) $
-              peeks ! SetWords (Is SetWords) (shows 𝓤 H A SetWords) zeros (zeroVal w64 ∷ []) (λ is-e. assigns ! (rep ! 256 (lit ! tt)) (early Z ! 2 (stop !))
-              (init ! 29 refl (array-fits 𝓤 H A W w64 256 zeros (zeroVal w64) is-e)) $
+              use0 W (‵ (Words .own (zeros 256) (zeroVal w32 256 ∷ []))) (zero-array 𝓤 H A W w32 256 (lit< tt)) $
+              peeks ! Words (Is Words) (shows 𝓤 H A Words) (zeros 256) (zeroVal w32 256 ∷ []) (λ is-w. assigns ! (rep ! 256 (lit ! tt)) (early Z ! 1 (stop !))
+              (init ! 30 refl (array-fits 𝓤 H A W w32 256 (zeros 256) (zeroVal w32 256) is-w)) $
+              use0 W (‵ (SetWords .own (zeros ecbWords) (zeroVal w64 ecbWords ∷ []))) (zero-array 𝓤 H A W w64 ecbWords (lit< tt)) $
+              peeks ! SetWords (Is SetWords) (shows 𝓤 H A SetWords) (zeros ecbWords) (zeroVal w64 ecbWords ∷ []) (λ is-e. assigns ! (rep ! ecbWords (lit ! tt)) (early Z ! 2 (stop !))
+              (init ! 29 refl (array-fits 𝓤 H A W w64 ecbWords (zeros ecbWords) (zeroVal w64 ecbWords) is-e)) $
               move ! (26 ∷ 3 ∷ []) $ lends-all ! g Z x (temps-fit xs g x (fit .0)) $
               assigns ! (of-opd ! (load ! (on-table Z ! (fld ! refl (stop !))) (look-in ! 35 (sub ! 1 refl (whole !))))) (late Z ! 0 (stop !))
               (init ! 25 refl (tt, record { fits = fit .1 .0 .0 })) $
@@ -309,16 +310,16 @@ module _ (S : RattleType) (g : Buffers) (xs : List Extra) (Refuse : List ℕ →
               use1 W (later (some (λ (γ : GName). ‵ (MutRef (named 1) (ν₁ ∷ []) usize .own (lent l₃ 0 γ) (vptr l₃ 0 ∷ [])) ⊛ ‵
               (flent (ν₁ ∷ []) (Body (mem usize) l₃ 0 γ))))) (lends-ref 𝓤 H A W usize (named 1) (ν₁ ∷ []) 0 l₃ 0) $
               await ! tt $ pick ! (λ γ₁. split ! $
-              move ! (34 ∷ 6 ∷ []) $ use2 W (‵ (partAt Words fullShare zeros l₄ 0)) (local-in 𝓤 H A W Words (tyArray (tyInt w32) 256) refl zeros l₄ (zeroVal w32)) $
-              use1 W (‵ (arr-parts (shares u32) 256 .part fullShare zeros l₄ 0)) (array-apart 𝓤 H A W u32 fullShare tt 256 zeros l₄ 0) $ fsplit ! $ drop ! $
-              use1 W (‵ (elements (mem u32) zeros l₄ 0)) (whole-in 𝓤 H A W u32 zeros l₄ 0) $ lft-new ! tt (λ ν₂. move ! (1 ∷ []) $
-              use1 W (later (some (λ (γ : GName). ‵ (MutSlice (named 2) (ν₂ ∷ []) u32 .own (lent l₄ zeros γ) (val (lent l₄ zeros γ) ∷ [])) ⊛ ‵
-              (flent (ν₂ ∷ []) (Held u32 256 l₄ 0 γ))))) (lends-slice 𝓤 H A W u32 (named 2) (ν₂ ∷ []) zeros l₄ 0 (has-room zeros refl)) $
+              move ! (34 ∷ 6 ∷ []) $ use2 W (‵ (partAt Words fullShare (zeros 256) l₄ 0)) (local-in 𝓤 H A W Words (tyArray (tyInt w32) 256) refl (zeros 256) l₄ (zeroVal w32 256)) $
+              use1 W (‵ (arr-parts (shares u32) 256 .part fullShare (zeros 256) l₄ 0)) (array-apart 𝓤 H A W u32 fullShare tt 256 (zeros 256) l₄ 0) $ fsplit ! $ drop ! $
+              use1 W (‵ (elements (mem u32) (zeros 256) l₄ 0)) (whole-in 𝓤 H A W u32 (zeros 256) l₄ 0) $ lft-new ! tt (λ ν₂. move ! (1 ∷ []) $
+              use1 W (later (some (λ (γ : GName). ‵ (MutSlice (named 2) (ν₂ ∷ []) u32 .own (lent l₄ (zeros 256) γ) (val (lent l₄ (zeros 256) γ) ∷ [])) ⊛ ‵
+              (flent (ν₂ ∷ []) (Held u32 256 l₄ 0 γ))))) (lends-slice 𝓤 H A W u32 (named 2) (ν₂ ∷ []) (zeros 256) l₄ 0 (has-room (zeros 256) refl)) $
               await ! tt $ pick ! (λ γ₂. split ! $
-              move ! (34 ∷ 8 ∷ []) $ use2 W (‵ (partAt SetWords fullShare zeros l₅ 0)) (local-in 𝓤 H A W SetWords (tyArray (tyInt w64) 256) refl zeros l₅ (zeroVal w64)) $
+              move ! (34 ∷ 8 ∷ []) $ use2 W (‵ (partAt SetWords fullShare (zeros ecbWords) l₅ 0)) (local-in 𝓤 H A W SetWords (tyArray (tyInt w64) ecbWords) refl (zeros ecbWords) l₅ (zeroVal w64 ecbWords)) $
               lft-new ! tt (λ ν₃. move ! (1 ∷ []) $
-              use1 W (later (some (λ (γ : GName). ‵ (MutRef (named 3) (ν₃ ∷ []) SetWords .own (lent l₅ zeros γ) (vptr l₅ 0 ∷ [])) ⊛ ‵
-              (flent (ν₃ ∷ []) (Body (mem SetWords) l₅ 0 γ))))) (lends-ref 𝓤 H A W SetWords (named 3) (ν₃ ∷ []) zeros l₅ 0) $
+              use1 W (later (some (λ (γ : GName). ‵ (MutRef (named 3) (ν₃ ∷ []) SetWords .own (lent l₅ (zeros ecbWords) γ) (vptr l₅ 0 ∷ [])) ⊛ ‵
+              (flent (ν₃ ∷ []) (Body (mem SetWords) l₅ 0 γ))))) (lends-ref 𝓤 H A W SetWords (named 3) (ν₃ ∷ []) (zeros ecbWords) l₅ 0) $
               await ! tt $ pick ! (λ γ₃. split ! $
               move ! (48 ∷ []) $ use1 W (‵ OwnB ⊛ ‵ OwnB) (shr-slice-copy 𝓤 H A W (named 0) (κs .0) u32 .twice b (val b ∷ [])) $ split ! $
               move ! (47 ∷ 48 ∷ 10 ∷ 7 ∷ 4 ∷ 0 ∷ 50 ∷ 8 ∷ 5 ∷ 2 ∷ 52 ∷ []) $ group ! 11 $
@@ -399,8 +400,8 @@ module _ (S : RattleType) (g : Buffers) (xs : List Extra) (Refuse : List ℕ →
               (local-out 𝓤 H A W Words (tyArray (tyInt w32) 256) refl ws l₄ (only-val w32) (array-tells (UInt w32) (uint-vals w32) (uint-tells w32) 256)) $
               split ! $ move ! (1 ∷ []) $ drop ! $
               move ! (2 ∷ []) $ lft-end ! tt $ move ! (0 ∷ 5 ∷ []) $ lent-back ! tt $
-              use1 W (‵ (fat fullShare (tyArray (tyInt w64) 256) l₅ 0 (only-val w64 es)) ⊛ ‵ (SetWords .own es (only-val w64 es ∷ [])))
-              (local-out 𝓤 H A W SetWords (tyArray (tyInt w64) 256) refl es l₅ (only-val w64) (array-tells (UInt w64) (uint-vals w64) (uint-tells w64) 256)) $
+              use1 W (‵ (fat fullShare (tyArray (tyInt w64) ecbWords) l₅ 0 (only-val w64 es)) ⊛ ‵ (SetWords .own es (only-val w64 es ∷ [])))
+              (local-out 𝓤 H A W SetWords (tyArray (tyInt w64) ecbWords) refl es l₅ (only-val w64) (array-tells (UInt w64) (uint-vals w64) (uint-tells w64) ecbWords)) $
               split ! $ move ! (1 ∷ []) $ drop ! $
               assigns ! (of-opd ! (load ! (early Z ! 3 (stop !)) (look ! 34 refl))) (from ! (stop !)) (init ! 43 refl (typed r u₁ is₁)) $
               returns ! (look ! 43 refl) $ forget ! 12 refl $ forget ! 14 refl $ forget ! 16 refl $ forget ! 18 refl $ forget ! 20 refl $ forget ! 22 refl $ forget ! 24 refl $

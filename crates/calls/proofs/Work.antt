@@ -31,6 +31,7 @@ use denote.Steps.{owned as made}
 use denote.Triple.Clauses.{Ended, AtExit, Lasts, atExit, lasts}
 use denote.Triple.Entry.{Vals as Machine, alive, onEntry}
 use denote.Triple.End.{Kepts}
+use Rattle.figures.specs.Survey.{ecbWords}
 use Rattle.calls.proofs.Steps.{val, pointer}
 use Rattle.calls.proofs.Cells.{listed}
 use Rattle.calls.proofs.Extras.{Extra, Values, tys, machines, owned-all, slots, keeps, taken, offered, taken-offered, spells, flat-offered, owns-offered}
@@ -60,7 +61,7 @@ module _ (xs : List Extra) where
   -- ---- the signature of the function that does the call's work: its count of records, its words and its sets are lent too
 
   abbrev sets : {n : ℕ} → Slot n
-  sets = ArrayOf (plain (λ _. u64)) (λ _. tt) 256
+  sets = ArrayOf (plain (λ _. u64)) (λ _. tt) ecbWords
 
   abbrev work-rest : (g : Buffers) → List (Slot (working g))
   work-rest none = plain (λ _. usize) ∷ mutRef 1 tt (λ _. usize) ∷ mutSlice 2 tt (λ _. u32) ∷ RefMutOf (3 ∷ []) tt sets (λ _. tt) ∷ slots 4 (first 3) xs

@@ -3,6 +3,7 @@
 pub use answers::Answer;
 pub use answers::Outcome;
 use board::MOST_TASKS;
+use figures::ECB_WORDS;
 pub use figures::Figure;
 use refusals::Verdict;
 ghost use mathlib.Core.Path.{_≡_};
@@ -37,7 +38,7 @@ pub fn analyse(
 {
     let mut n: usize = 0;
     let mut words = [0u32; 256];
-    let mut sets = [0u64; 256];
+    let mut sets = [0u64; ECB_WORDS];
     let answer = call_work::analyse(
         board,
         times,
@@ -79,7 +80,7 @@ pub fn analyse_in_order<'a>(
 {
     let mut n: usize = 0;
     let mut words = [0u32; 256];
-    let mut sets = [0u64; 256];
+    let mut sets = [0u64; ECB_WORDS];
     let answer = order_work::analyse_in_order(
         board,
         times,
@@ -106,7 +107,7 @@ pub fn analyse_alone(board: &[u32], times: &mut [u32], scratch: &mut [u32]) -> A
 {
     let mut n: usize = 0;
     let mut words = [0u32; 256];
-    let mut sets = [0u64; 256];
+    let mut sets = [0u64; ECB_WORDS];
     call_work::analyse(
         board,
         times,
@@ -126,7 +127,7 @@ pub fn figures(board: &[u32], table: &mut [Figure]) -> Outcome
 {
     let mut n: usize = 0;
     let mut words = [0u32; 256];
-    let mut sets = [0u64; 256];
+    let mut sets = [0u64; ECB_WORDS];
     let outcome = call_work::figures(board, table.len(), &mut n, &mut words, &mut sets);
     table::fill(board, n, &words, &sets, table);
     outcome

@@ -1,5 +1,6 @@
 // The calls for C and Rust, on numbers and word slices; include/zuzgravel.h declares them. Each takes every input, returns a code, and
 // puts the two numbers of its answer into the two words of `answer`, also where it refuses. In C the array is one pointer, with no length.
+use figures::ECB_WORDS;
 use replies::reply::of_answer;
 use replies::reply::of_outcome;
 use replies::table::RECORD_WORDS;
@@ -16,7 +17,7 @@ ghost use Rattle.calls.specs.InOrder.{LikeAnalyse};
 ghost use Rattle.replies.specs.Replies.{outcomeCode, outcomeWords, answerCode, answerWords};
 ghost use Rattle.replies.specs.Records.{recordRoom, recordsAfter};
 
-// Figures: the records of the tasks as words, 13 a record; the value is their number.
+// Figures: the records of the tasks as words, RECORD_WORDS a record; the value is their number.
 #[no_mangle]
 pub extern "C" fn zuzgravel_figures(
     board: &[u32],
@@ -30,7 +31,7 @@ pub extern "C" fn zuzgravel_figures(
 {
     let mut n: usize = 0;
     let mut words = [0u32; 256];
-    let mut sets = [0u64; 256];
+    let mut sets = [0u64; ECB_WORDS];
     let outcome = call_work::figures(
         board,
         records.len() / RECORD_WORDS,
@@ -100,7 +101,7 @@ pub extern "C" fn zuzgravel_analyse(
 {
     let mut n: usize = 0;
     let mut words = [0u32; 256];
-    let mut sets = [0u64; 256];
+    let mut sets = [0u64; ECB_WORDS];
     let room = records.len() / RECORD_WORDS;
     let found = call_work::analyse(board, times, scratch, room, &mut n, &mut words, &mut sets);
     fill_words(board, n, &words, &sets, records);
@@ -143,7 +144,7 @@ pub extern "C" fn zuzgravel_analyse_in_order<'a>(
 {
     let mut n: usize = 0;
     let mut words = [0u32; 256];
-    let mut sets = [0u64; 256];
+    let mut sets = [0u64; ECB_WORDS];
     let room = records.len() / RECORD_WORDS;
     let found = order_work::analyse_in_order(
         board,

@@ -18,9 +18,9 @@ use Rattle.folds.proofs.Numbers.{and-both}
 use Rattle.folds.proofs.Folds.{sumTo-but}
 use Rattle.bitset.specs.Bits.{bit, wordOf}
 use Rattle.bitset.proofs.Words.{bit-and, bit-xor, bit-wordOf}
-use Rattle.counts.specs.Planes.{inPlane, countOf, largest}
+use Rattle.counts.specs.Planes.{setsOf, inPlane, countOf, largest}
 use Rattle.counts.specs.Turns.{Passed}
-use Rattle.counts.proofs.Planes.{plane-word, weight, count-sum, count-below, largest-power}
+use Rattle.counts.proofs.Planes.{same-plane, weight, count-sum, count-below, largest-power}
 
 -- ---- one number: it was `old` and is `new`, with a carry in of `first` and one that still stands, of weight k, of `rest`
 
@@ -61,21 +61,20 @@ moved-end false false true most old new low room some l m = absurd (omega arith)
 abbrev carried : ℕ → ℕ → ℕ → Bool
 carried carry at s = eqb (s / 64) at && bit carry (s % 64)
 
-module _ (live : List ℕ) (i at carry : ℕ) (room : 4 * i + at < length live) (near : at < 4) where
+module _ (c : ℕ) (live : List ℕ) (i at carry : ℕ) (room : 4 * (i * c) + at < length live) (near : at < 4 * c) where
   abbrev word : ℕ
-  word = getD live (4 * i + at) 0
+  word = getD live (4 * (i * c) + at) 0
 
   abbrev next : List ℕ
-  next = set live (4 * i + at) (bitXor word carry)
+  next = set live (4 * (i * c) + at) (bitXor word carry)
 
   -- planes but this one are as they were, and this one has the carries
-  plane-other : (j s : ℕ) → s < 256 → (j ≡ i → ⊥) → inPlane next j s ≡ inPlane live j s
+  plane-other : (j s : ℕ) → s < setsOf c → (j ≡ i → ⊥) → inPlane c next j s ≡ inPlane c live j s
   plane-other j s h other =
-      plane-word next j s h
-      ∙ ap (λ (w : ℕ). bit w (s % 64)) (getD-set-other live (4 * i + at) (4 * j + s / 64) (bitXor word carry) 0 (λ e. other (omega arith)))
-      ∙ sym (plane-word live j s h)
+      ap (λ (w : ℕ). bit w (s % 64))
+      (getD-set-other live (4 * (i * c) + at) (4 * (j * c) + s / 64) (bitXor word carry) 0 (λ e. other (same-plane c j i (s / 64) at (omega arith) near e)))
 
-  plane-here : (s : ℕ) → s < 256 → inPlane next i s ≡ xor (inPlane live i s) (carried carry at s)
+  plane-here : (s : ℕ) → s < setsOf c → inPlane c next i s ≡ xor (inPlane c live i s) (carried carry at s)
   unfolding xor
   plane-here s h = go (ℕ-discrete (s / 64) at)
     where
@@ -83,43 +82,42 @@ module _ (live : List ℕ) (i at carry : ℕ) (room : 4 * i + at < length live) 
       same true = refl
       same false = refl
 
-      go : Dec (s / 64 ≡ at) → inPlane next i s ≡ xor (inPlane live i s) (carried carry at s)
+      go : Dec (s / 64 ≡ at) → inPlane c next i s ≡ xor (inPlane c live i s) (carried carry at s)
       go (yes e) =
-          plane-word next i s h ∙ ap (λ (k : ℕ). bit (getD next (4 * i + k) 0) (s % 64)) e
-          ∙ ap (λ (w : ℕ). bit w (s % 64)) (getD-set-same live (4 * i + at) (bitXor word carry) 0 room)
+          ap (λ (k : ℕ). bit (getD next (4 * (i * c) + k) 0) (s % 64)) e
+          ∙ ap (λ (w : ℕ). bit w (s % 64)) (getD-set-same live (4 * (i * c) + at) (bitXor word carry) 0 room)
           ∙ bit-xor word carry (s % 64)
           ∙ ap₂ xor
-          (sym (plane-word live i s h ∙ ap (λ (k : ℕ). bit (getD live (4 * i + k) 0) (s % 64)) e))
+          (sym (ap (λ (k : ℕ). bit (getD live (4 * (i * c) + k) 0) (s % 64)) e))
           (sym (ap (λ (t : Bool). t && bit carry (s % 64)) (eq-eqb (s / 64) at e)))
       go (no n) =
-          plane-word next i s h
-          ∙ ap (λ (w : ℕ). bit w (s % 64)) (getD-set-other live (4 * i + at) (4 * i + s / 64) (bitXor word carry) 0 (λ e. n (omega arith)))
-          ∙ sym (plane-word live i s h) ∙ same (inPlane live i s)
-          ∙ ap (λ (t : Bool). xor (inPlane live i s) (t && bit carry (s % 64))) (sym (ne-eqb (s / 64) at n))
+          ap (λ (w : ℕ). bit w (s % 64)) (getD-set-other live (4 * (i * c) + at) (4 * (i * c) + s / 64) (bitXor word carry) 0 (λ e. n (omega arith)))
+          ∙ same (inPlane c live i s)
+          ∙ ap (λ (t : Bool). xor (inPlane c live i s) (t && bit carry (s % 64))) (sym (ne-eqb (s / 64) at n))
 
   -- the carries that go on
-  carry-on : (turned : ℕ) (down : Bool) → ((j : ℕ) → j < 64 → bit turned j ≡ down) → (s : ℕ) → s < 256
-      → carried (bitAnd carry (bitXor word turned)) at s ≡ (carried carry at s && xor (inPlane live i s) down)
+  carry-on : (turned : ℕ) (down : Bool) → ((j : ℕ) → j < 64 → bit turned j ≡ down) → (s : ℕ) → s < setsOf c
+      → carried (bitAnd carry (bitXor word turned)) at s ≡ (carried carry at s && xor (inPlane c live i s) down)
   carry-on turned down all s h = go (ℕ-discrete (s / 64) at)
     where
-      go : Dec (s / 64 ≡ at) → carried (bitAnd carry (bitXor word turned)) at s ≡ (carried carry at s && xor (inPlane live i s) down)
+      go : Dec (s / 64 ≡ at) → carried (bitAnd carry (bitXor word turned)) at s ≡ (carried carry at s && xor (inPlane c live i s) down)
       go (yes e) =
           rw (eq-eqb (s / 64) at e)
           (bit-and carry (bitXor word turned) (s % 64)
           ∙ ap (λ (t : Bool). bit carry (s % 64) && t)
           (bit-xor word turned (s % 64)
-          ∙ ap₂ xor (sym (plane-word live i s h ∙ ap (λ (k : ℕ). bit (getD live (4 * i + k) 0) (s % 64)) e)) (all (s % 64) (omega arith))))
+          ∙ ap₂ xor (sym (ap (λ (k : ℕ). bit (getD live (4 * (i * c) + k) 0) (s % 64)) e)) (all (s % 64) (omega arith))))
       go (no n) = rw (ne-eqb (s / 64) at n) refl
 
   -- the number of a set after its bit of plane i has changed
-  count-on : (n s : ℕ) → s < 256 → i < n
-      → countOf next 0 n s + onlyIf (inPlane live i s) (2 ^ i) ≡ countOf live 0 n s + onlyIf (xor (inPlane live i s) (carried carry at s)) (2 ^ i)
+  count-on : (n s : ℕ) → s < setsOf c → i < n
+      → countOf c next 0 n s + onlyIf (inPlane c live i s) (2 ^ i) ≡ countOf c live 0 n s + onlyIf (xor (inPlane c live i s) (carried carry at s)) (2 ^ i)
   count-on n s h l =
-      let but = sumTo-but (weight live 0 s) (weight next 0 s) n i l (λ j m o. ap (λ (t : Bool). onlyIf t (2 ^ j)) (sym (plane-other (0 + j) s h (λ e. o (sym (zero-add j) ∙ e))))) in
-      let was : weight live 0 s i ≡ onlyIf (inPlane live i s) (2 ^ i) = ap (λ (k : ℕ). onlyIf (inPlane live k s) (2 ^ i)) (zero-add i) in
-      let is : weight next 0 s i ≡ onlyIf (xor (inPlane live i s) (carried carry at s)) (2 ^ i) =
-      ap (λ (k : ℕ). onlyIf (inPlane next k s) (2 ^ i)) (zero-add i) ∙ ap (λ (t : Bool). onlyIf t (2 ^ i)) (plane-here s h) in
-      omega (arith, but, was, is, count-sum next 0 n s, count-sum live 0 n s)
+      let but = sumTo-but (weight c live 0 s) (weight c next 0 s) n i l (λ j m o. ap (λ (t : Bool). onlyIf t (2 ^ j)) (sym (plane-other (0 + j) s h (λ e. o (sym (zero-add j) ∙ e))))) in
+      let was : weight c live 0 s i ≡ onlyIf (inPlane c live i s) (2 ^ i) = ap (λ (k : ℕ). onlyIf (inPlane c live k s) (2 ^ i)) (zero-add i) in
+      let is : weight c next 0 s i ≡ onlyIf (xor (inPlane c live i s) (carried carry at s)) (2 ^ i) =
+      ap (λ (k : ℕ). onlyIf (inPlane c next k s) (2 ^ i)) (zero-add i) ∙ ap (λ (t : Bool). onlyIf t (2 ^ i)) (plane-here s h) in
+      omega (arith, but, was, is, count-sum c next 0 n s, count-sum c live 0 n s)
 
 -- ---- the code: after i planes the numbers have moved but for the carries
 
@@ -133,17 +131,17 @@ falls mark = eqb (mark % 4) 2
 abbrev moved : ℕ → ℕ → Bool
 moved mark s = eqb (mark / 4) s && moves mark
 
-abbrev pub Rippled : ℕ → ℕ → ℕ → List ℕ → ℕ → ℕ → List ℕ → Type 0
-Rippled planes mark at live₀ i carry live =
-    (s : ℕ) → s < 256 → Moved (falls mark) (moved mark s) (carried carry at s) (2 ^ i) (countOf live₀ 0 planes s) (countOf live 0 planes s)
+abbrev pub Rippled : ℕ → ℕ → ℕ → ℕ → List ℕ → ℕ → ℕ → List ℕ → Type 0
+Rippled c planes mark at live₀ i carry live =
+    (s : ℕ) → s < setsOf c → Moved (falls mark) (moved mark s) (carried carry at s) (2 ^ i) (countOf c live₀ 0 planes s) (countOf c live 0 planes s)
 
 -- before the first plane: the carry of the mark's set alone
-pub ripple-start : (planes mark at : ℕ) (live : List ℕ) (carry : ℕ) → at ≡ mark / 256 → carry ≡ wordOf (λ t. eqb t (mark / 4 % 64) && moves mark) 64
-    → Rippled planes mark at live 0 carry live
-ripple-start planes mark at live carry place e s h =
-    ap (λ (t : Bool). countOf live 0 planes s + onlyIf (not (falls mark) && t) 1 + onlyIf (falls mark && moved mark s) 1) first
-    ∙ moved-start (falls mark) (moved mark s) (countOf live 0 planes s)
-    ∙ ap (λ (t : Bool). countOf live 0 planes s + onlyIf (falls mark && t) 1 + onlyIf (not (falls mark) && moved mark s) 1) (sym first)
+pub ripple-start : (c planes mark at : ℕ) (live : List ℕ) (carry : ℕ) → at ≡ mark / 256 → carry ≡ wordOf (λ t. eqb t (mark / 4 % 64) && moves mark) 64
+    → Rippled c planes mark at live 0 carry live
+ripple-start c planes mark at live carry place e s h =
+    ap (λ (t : Bool). countOf c live 0 planes s + onlyIf (not (falls mark) && t) 1 + onlyIf (falls mark && moved mark s) 1) first
+    ∙ moved-start (falls mark) (moved mark s) (countOf c live 0 planes s)
+    ∙ ap (λ (t : Bool). countOf c live 0 planes s + onlyIf (falls mark && t) 1 + onlyIf (not (falls mark) && moved mark s) 1) (sym first)
   where
     its : bit carry (s % 64) ≡ (eqb (s % 64) (mark / 4 % 64) && moves mark)
     its = ap (λ (w : ℕ). bit w (s % 64)) e ∙ bit-wordOf 64 (λ t. eqb t (mark / 4 % 64) && moves mark) (s % 64) (omega arith)
@@ -158,32 +156,32 @@ ripple-start planes mark at live carry place e s h =
     first = ap (λ (t : Bool). eqb (s / 64) at && t) its ∙ split (ℕ-discrete (mark / 4) s) (ℕ-discrete (s / 64) at)
 
 -- one plane more
-pub ripple-on : (planes mark at : ℕ) (live₀ live : List ℕ) (i carry turned : ℕ) → i < planes → at < 4 → 4 * i + at < length live
-    → turned ≡ wordOf (λ t. falls mark) 64 → Rippled planes mark at live₀ i carry live
-    → Rippled planes mark at live₀ (i + 1) (bitAnd carry (bitXor (getD live (4 * i + at) 0) turned)) (set live (4 * i + at) (bitXor (getD live (4 * i + at) 0) carry))
-ripple-on planes mark at live₀ live i carry turned l near room e so-far s h =
+pub ripple-on : (c planes mark at : ℕ) (live₀ live : List ℕ) (i carry turned : ℕ) → i < planes → at < 4 * c → 4 * (i * c) + at < length live
+    → turned ≡ wordOf (λ t. falls mark) 64 → Rippled c planes mark at live₀ i carry live
+    → Rippled c planes mark at live₀ (i + 1) (bitAnd carry (bitXor (getD live (4 * (i * c) + at) 0) turned)) (set live (4 * (i * c) + at) (bitXor (getD live (4 * (i * c) + at) 0) carry))
+ripple-on c planes mark at live₀ live i carry turned l near room e so-far s h =
     subst
-    (λ (t : Bool). Moved (falls mark) (moved mark s) t (2 ^ (i + 1)) (countOf live₀ 0 planes s) (countOf (next live i at carry room near) 0 planes s))
-    (sym (carry-on live i at carry room near turned (falls mark) (λ j k. ap (λ (w : ℕ). bit w j) e ∙ bit-wordOf 64 (λ t. falls mark) j k) s h))
-    (moved-on (falls mark) (moved mark s) (carried carry at s) (inPlane live i s) (2 ^ i) (2 ^ (i + 1)) (countOf live₀ 0 planes s) (countOf live 0 planes s) _
-    (ap (λ (k : ℕ). 2 ^ k) (add-one i) ∙ pow-suc 2 i) (count-on live i at carry room near planes s h l) (so-far s h))
+    (λ (t : Bool). Moved (falls mark) (moved mark s) t (2 ^ (i + 1)) (countOf c live₀ 0 planes s) (countOf c (next c live i at carry room near) 0 planes s))
+    (sym (carry-on c live i at carry room near turned (falls mark) (λ j k. ap (λ (w : ℕ). bit w j) e ∙ bit-wordOf 64 (λ t. falls mark) j k) s h))
+    (moved-on (falls mark) (moved mark s) (carried carry at s) (inPlane c live i s) (2 ^ i) (2 ^ (i + 1)) (countOf c live₀ 0 planes s) (countOf c live 0 planes s) _
+    (ap (λ (k : ℕ). 2 ^ k) (add-one i) ∙ pow-suc 2 i) (count-on c live i at carry room near planes s h l) (so-far s h))
 
 -- past the last plane
-pub ripple-end : (planes mark at : ℕ) (live₀ live : List ℕ) (i carry : ℕ) → i ≡ planes
-    → (mark % 4 ≡ 1 → countOf live₀ 0 planes (mark / 4) < largest planes) → (mark % 4 ≡ 2 → 1 ≤ countOf live₀ 0 planes (mark / 4))
-    → Rippled planes mark at live₀ i carry live → Passed live₀ planes mark live
-ripple-end planes mark at live₀ live i carry e room some all s h =
-    ap (λ (t : Bool). countOf live 0 planes s + onlyIf t 1) (sym less)
-    ∙ moved-end (falls mark) (moved mark s) (carried carry at s) (largest planes) (countOf live₀ 0 planes s) (countOf live 0 planes s)
-    (count-below live 0 planes s)
+pub ripple-end : (c planes mark at : ℕ) (live₀ live : List ℕ) (i carry : ℕ) → i ≡ planes
+    → (mark % 4 ≡ 1 → countOf c live₀ 0 planes (mark / 4) < largest planes) → (mark % 4 ≡ 2 → 1 ≤ countOf c live₀ 0 planes (mark / 4))
+    → Rippled c planes mark at live₀ i carry live → Passed c live₀ planes mark live
+ripple-end c planes mark at live₀ live i carry e room some all s h =
+    ap (λ (t : Bool). countOf c live 0 planes s + onlyIf t 1) (sym less)
+    ∙ moved-end (falls mark) (moved mark s) (carried carry at s) (largest planes) (countOf c live₀ 0 planes s) (countOf c live 0 planes s)
+    (count-below c live 0 planes s)
     (λ q. let both = and-both (eqb (mark / 4) s) (eqb (mark % 4) 1) (sym more ∙ q) in
-    subst (λ (k : ℕ). countOf live₀ 0 planes k < largest planes) (eqb-true (mark / 4) s (both .0)) (room (eqb-true (mark % 4) 1 (both .1))))
+    subst (λ (k : ℕ). countOf c live₀ 0 planes k < largest planes) (eqb-true (mark / 4) s (both .0)) (room (eqb-true (mark % 4) 1 (both .1))))
     (λ q. let both = and-both (eqb (mark / 4) s) (eqb (mark % 4) 2) (sym less ∙ q) in
-    subst (λ (k : ℕ). 1 ≤ countOf live₀ 0 planes k) (eqb-true (mark / 4) s (both .0)) (some (eqb-true (mark % 4) 2 (both .1))))
-    (count-below live₀ 0 planes s)
-    (subst (λ (k : ℕ). Moved (falls mark) (moved mark s) (carried carry at s) k (countOf live₀ 0 planes s) (countOf live 0 planes s))
+    subst (λ (k : ℕ). 1 ≤ countOf c live₀ 0 planes k) (eqb-true (mark / 4) s (both .0)) (some (eqb-true (mark % 4) 2 (both .1))))
+    (count-below c live₀ 0 planes s)
+    (subst (λ (k : ℕ). Moved (falls mark) (moved mark s) (carried carry at s) k (countOf c live₀ 0 planes s) (countOf c live 0 planes s))
     (ap (λ (k : ℕ). 2 ^ k) e ∙ sym (largest-power planes)) (all s h))
-    ∙ ap (λ (t : Bool). countOf live₀ 0 planes s + onlyIf t 1) more
+    ∙ ap (λ (t : Bool). countOf c live₀ 0 planes s + onlyIf t 1) more
   where
     less' : (a o z : Bool) → (z && (a && (o || z))) ≡ (a && z)
     less' true true true = refl

@@ -7,7 +7,7 @@ use mathlib.Core.List.{List}
 use mathlib.Core.Path.{_≡_}
 use lib.Dec.{eqb}
 use Rattle.folds.specs.Folds.{onlyIf}
-use Rattle.counts.specs.Planes.{countOf}
+use Rattle.counts.specs.Planes.{setsOf, countOf}
 
 -- how many blocks set s has more, and how many it has less
 abbrev pub adds : ℕ → ℕ → ℕ
@@ -17,5 +17,5 @@ abbrev pub takes : ℕ → ℕ → ℕ
 takes mark s = onlyIf (eqb (mark / 4) s && eqb (mark % 4) 2) 1
 
 -- the numbers of live' are those of live after the mark
-abbrev pub Passed : List ℕ → ℕ → ℕ → List ℕ → Type 0
-Passed live planes mark live' = (s : ℕ) → s < 256 → countOf live' 0 planes s + takes mark s ≡ countOf live 0 planes s + adds mark s
+abbrev pub Passed : ℕ → List ℕ → ℕ → ℕ → List ℕ → Type 0
+Passed c live planes mark live' = (s : ℕ) → s < setsOf c → countOf c live' 0 planes s + takes mark s ≡ countOf c live 0 planes s + adds mark s

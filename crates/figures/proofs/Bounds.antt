@@ -10,7 +10,7 @@ use Rattle.board.proofs.Extents.{traces-fit}
 use Rattle.trace.specs.Traces.{traceOf, tracePD, traceMD}
 use Rattle.trace.proofs.Bounds.{tracePD-bound, traceMD-bound}
 use Rattle.figures.specs.Figures.{taskTrace, taskPD, taskMD}
--- the overhead's: 256 sets of eight ways
+-- the overhead's: 512 sets of eight ways
 pub use Rattle.figures.proofs.Overhead.{γ-bound}
 
 module _ (b : List ℕ) (s : Sound b) (k : ℕ) (task : k < tasks b) where

@@ -29,10 +29,10 @@ pub raised-none : (f : ℕ → ℕ) (i : ℕ) (row : List ℕ) → ((j : ℕ) �
 raised-none f i row none = sym (fillTo-same _ row i (λ j h. omega (arith, none j)))
 
 -- by no records
-pub common-none : (b : List ℕ) (i : ℕ) (lives : List ℕ) (planes m : ℕ) (row : List ℕ) → m ≡ 0
-    → row ≡ raised (onCoreOf b i (λ j. mostCommon lives planes planes m (evictedBy b j))) i row
-common-none b i lives planes m row none =
-    raised-none _ i row (λ j. onlyIf-zero (eqb (core b i) (core b j)) _ (ap (λ (k : ℕ). mostCommon lives planes planes k (evictedBy b j)) none ∙ mostCommon-none lives planes planes _))
+pub common-none : (b : List ℕ) (i c : ℕ) (lives : List ℕ) (planes m : ℕ) (row : List ℕ) → m ≡ 0
+    → row ≡ raised (onCoreOf b i (λ j. mostCommon c lives planes planes m (evictedBy b j))) i row
+common-none b i c lives planes m row none =
+    raised-none _ i row (λ j. onlyIf-zero (eqb (core b i) (core b j)) _ (ap (λ (k : ℕ). mostCommon c lives planes planes k (evictedBy b j)) none ∙ mostCommon-none c lives planes planes _))
 
 -- one word more
 pub raised-turn : (f : ℕ → ℕ) (row : List ℕ) (j : ℕ) {out : List ℕ} {v x : ℕ} → out ≡ raised f j row → x ≡ f j → v ≡ max (getD out j 0) x

@@ -15,11 +15,11 @@ use Rattle.figures.specs.Overhead.{evictedBy}
 
 -- record j of the buffer, for each j below n, holds the ECB of task j
 abbrev pub Evicting : List ℕ → ℕ → List ℕ → Type 0
-Evicting b n sets = (j : ℕ) → j < n → recordAt sets j ≡ wordsOf (evicting b j)
+Evicting b n sets = (j : ℕ) → j < n → recordAt 8 sets j ≡ wordsOf 8 (evicting b j)
 
 -- or the sets that task j evicts
 abbrev pub Evicted : List ℕ → ℕ → List ℕ → Type 0
-Evicted b n sets = (j : ℕ) → j < n → recordAt sets j ≡ wordsOf (evictedBy b j)
+Evicted b n sets = (j : ℕ) → j < n → recordAt 8 sets j ≡ wordsOf 8 (evictedBy b j)
 
 -- task h is on core x, and s in its ECB
 abbrev pub onCore : List ℕ → ℕ → ℕ → ℕ → Bool
@@ -27,7 +27,7 @@ onCore b x h s = eqb (core b h) x && evicting b h s
 
 -- record x, for each core x, has the ECBs of the tasks on it below j
 unfoldable pub Cores : List ℕ → ℕ → List ℕ → Type 0
-Cores b j sets = (x : ℕ) → x ≤ 8 → recordAt sets x ≡ wordsOf (λ s. anyTo (λ h. onCore b x h s) j)
+Cores b j sets = (x : ℕ) → x ≤ 8 → recordAt 8 sets x ≡ wordsOf 8 (λ s. anyTo (λ h. onCore b x h s) j)
 
 -- f j for each task j on the core of task i, and 0 for the others
 abbrev pub onCoreOf : List ℕ → ℕ → (ℕ → ℕ) → ℕ → ℕ

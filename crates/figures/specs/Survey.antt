@@ -5,12 +5,17 @@ use mathlib.Core.Bool.{Bool, true}
 use mathlib.Core.List.{List}
 use mathlib.Core.Path.{_≡_}
 use lib.ListN.{length, getD}
+use Rattle.board.specs.Layout.{mostTasks}
 use Rattle.figures.specs.Ready.{Ready}
 use Rattle.figures.specs.Figures.{taskPD, taskMD}
 use Rattle.figures.specs.Overhead.{γ}
 use Rattle.figures.specs.Rows.{Evicting}
 
--- The figures of the first `count` of n tasks as words: PD from word 2n on, MD from 3n on, and ECB as records of four 64-bit words.
+-- the words of a set for each task: eight, for the places of two caches
+abbrev pub ecbWords : ℕ
+ecbWords = 8 * mostTasks
+
+-- The figures of the first `count` of n tasks as words: PD from word 2n on, MD from 3n on, and ECB as records of eight 64-bit words.
 pub record Held (b : List ℕ) (n count : ℕ) (words sets : List ℕ) : Type 0 where
   pub pd : (k : ℕ) → k < count → getD words (2 * n + k) 0 ≡ taskPD b k
   pub md : (k : ℕ) → k < count → getD words (3 * n + k) 0 ≡ taskMD b k

@@ -1,14 +1,18 @@
 // The figures of a task, and the pre-emption overhead.
 pub mod row;
 
-use bitset::records::read;
+use bitset::records::four;
+use board::MOST_TASKS;
 use board::fields;
 ghost use mathlib.Core.Path.{_≡_};
 ghost use Prim.Native.Nat.{_<_};
 ghost use Rattle.figures.specs.Figures.{figureOf};
 ghost use Rattle.figures.specs.Survey.{Fillable};
 
-// One record of the figures table: a task's core, T, D, PD, MD and ECB.
+// The words of a set for each task: eight, for the places of two caches.
+pub const ECB_WORDS: usize = 8 * MOST_TASKS;
+
+// One record of the figures table: a task's core, T, D, PD, MD, and an ECB for each cache, the code's first.
 pub struct Figure {
     pub core: u32,
     pub period: u32,
@@ -16,10 +20,17 @@ pub struct Figure {
     pub pd: u32,
     pub md: u32,
     pub ecb: [u64; 4],
+    pub data_ecb: [u64; 4],
 }
 
 // The figures of task k, from the words and the sets that hold them.
-pub fn figure_at(board: &[u32], n: usize, words: &[u32], sets: &[u64; 256], k: usize) -> Figure
+pub fn figure_at(
+    board: &[u32],
+    n: usize,
+    words: &[u32],
+    sets: &[u64; ECB_WORDS],
+    k: usize,
+) -> Figure
     requires { ⌜ (Fillable (now board) n (now words) (now sets)) × (k < n) ⌝ }
     ensures { λ r. ⌜ r ≡ figureOf (now (board .entry)) k ⌝ }
 {
@@ -28,7 +39,8 @@ pub fn figure_at(board: &[u32], n: usize, words: &[u32], sets: &[u64; 256], k: u
     let deadline = fields::deadline(board, k);
     let pd = words[2 * n + k];
     let md = words[3 * n + k];
-    let ecb = read(sets, k);
+    let ecb = four(sets, 2 * k);
+    let data_ecb = four(sets, 2 * k + 1);
     Figure {
         core,
         period,
@@ -36,5 +48,6 @@ pub fn figure_at(board: &[u32], n: usize, words: &[u32], sets: &[u64; 256], k: u
         pd,
         md,
         ecb,
+        data_ecb,
     }
 }

@@ -1,4 +1,5 @@
 // A row of overheads: word j has γ(i, j) of the task i at hand.
+use super::ECB_WORDS;
 use bitset::records::read;
 use board::fields;
 use counts::needed::needed;
@@ -8,6 +9,7 @@ ghost use mathlib.Core.Path.{_≡_};
 ghost use Prim.Native.Nat.{ℕ, _+_, _*_, _<_, _≤_};
 ghost use lib.ListN.{length};
 ghost use Rattle.board.specs.Layout.{mostTasks, scratchWords, mostScratch};
+ghost use Rattle.board.specs.Sound.{Between};
 ghost use Rattle.counts.specs.Records.{mostCommon};
 ghost use Rattle.figures.specs.Ready.{Ready};
 ghost use Rattle.figures.specs.Overhead.{evictedBy};
@@ -25,24 +27,28 @@ pub fn place(n: usize, i: usize) -> usize
 pub fn raise(
     board: &[u32],
     i: usize,
-    evicted: &[u64; 256],
+    evicted: &[u64; ECB_WORDS],
     lives: &[u64],
+    caches: usize,
     planes: usize,
     m: usize,
     row: &mut [u32; 64],
 )
-    requires { ⌜ (Ready (now board) i) × (Evicted (now board) i (now evicted)) × (1 ≤ planes) × (planes ≤ 4) × (m ≤ 1024)
-        × (4 * (m * planes) ≤ length (now lives)) ⌝ }
+    requires { ⌜ (Ready (now board) i) × (Evicted (now board) i (now evicted)) × (Between 1 2 caches) × (Between 1 4 planes) × (m ≤ 1024)
+        × (4 * (m * planes * caches) ≤ length (now lives)) ⌝ }
     ensures { λ _. ⌜ now (row .exit) ≡ raised (onCoreOf (now (board .entry)) i
-        (λ (j : ℕ). mostCommon (now (lives .entry)) planes planes m (evictedBy (now (board .entry)) j))) i (now (row .entry)) ⌝ }
+        (λ (j : ℕ). mostCommon caches (now (lives .entry)) planes planes m (evictedBy (now (board .entry)) j))) i (now (row .entry)) ⌝ }
 {
     if m == 0 {
         return;
     }
-    let used = needed(lives, planes, m);
+    let used = needed(lives, caches, planes, m);
     let mut j: usize = 0;
     while j < i {
-        row[j] = larger(row[j], common(board, i, j, evicted, lives, planes, used, m));
+        row[j] = larger(
+            row[j],
+            common(board, i, j, evicted, lives, caches, planes, used, m),
+        );
         j += 1;
     }
 }
@@ -52,20 +58,21 @@ fn common(
     board: &[u32],
     i: usize,
     j: usize,
-    evicted: &[u64; 256],
+    evicted: &[u64; ECB_WORDS],
     lives: &[u64],
+    caches: usize,
     planes: usize,
     used: usize,
     m: usize,
 ) -> u32
-    requires { ⌜ (Ready (now board) i) × (j < i) × (Evicted (now board) i (now evicted)) × (1 ≤ used) × (used ≤ planes) × (planes ≤ 4) × (m ≤ 1024)
-        × (4 * (m * planes) ≤ length (now lives)) ⌝ }
-    ensures { λ r. ⌜ r ≡ onCoreOf (now (board .entry)) i (λ (k : ℕ). mostCommon (now (lives .entry)) planes used m (evictedBy (now (board .entry)) k)) j ⌝ }
+    requires { ⌜ (Ready (now board) i) × (j < i) × (Evicted (now board) i (now evicted)) × (Between 1 2 caches) × (1 ≤ used) × (used ≤ planes) × (planes ≤ 4)
+        × (m ≤ 1024) × (4 * (m * planes * caches) ≤ length (now lives)) ⌝ }
+    ensures { λ r. ⌜ r ≡ onCoreOf (now (board .entry)) i (λ (k : ℕ). mostCommon caches (now (lives .entry)) planes used m (evictedBy (now (board .entry)) k)) j ⌝ }
 {
     let x = fields::core(board, i);
     let y = fields::core(board, j);
     if x != y {
         return 0;
     }
-    most_common(lives, planes, used, m, read(evicted, j))
+    most_common(lives, caches, planes, used, m, read(evicted, j))
 }

@@ -229,6 +229,11 @@ unfolding anyTo
 anyTo-cong test test' zero all = refl
 anyTo-cong test test' (suc n) all = ap₂ _||_ (anyTo-cong test test' n (λ k h. all k (omega arith))) (all n (omega arith))
 
+pub anyTo-false : (test : ℕ → Bool) (n : ℕ) → ((k : ℕ) → k < n → test k ≡ false) → anyTo test n ≡ false
+unfolding anyTo
+anyTo-false test zero none = refl
+anyTo-false test (suc n) none = ap₂ _||_ (anyTo-false test n (λ k h. none k (omega arith))) (none n (omega arith))
+
 -- one that passes is enough
 pub anyTo-some : (test : ℕ → Bool) (n k : ℕ) → k < n → test k ≡ true → anyTo test n ≡ true
 unfolding anyTo

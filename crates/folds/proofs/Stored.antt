@@ -1,15 +1,16 @@
 -- What one more store does, and a list that was filled.
 -- Assumes nothing.
-use Prim.Native.Nat.{ℕ, _+_, _≤_, _<_}
+use Prim.Native.Nat.{ℕ, _+_, _-_, _≤_, _<_}
 use mathlib.Core.List.{List}
-use mathlib.Core.Path.{_≡_, refl, sym, subst, _∙_}
+use mathlib.Core.Logic.{⊎-elim}
+use mathlib.Core.Path.{_≡_, refl, sym, ap, subst, _∙_}
 use native.Mathlib.Nat.{le-antisymm, zero-add}
 use native.Mathlib.Omega.{arith}
 use lib.ListN.{length, getD, take, set, length-set}
 use lib.Seq.{getD-set-same, getD-set-other, length-take-le, getD-take, ext-getD}
 use Rattle.folds.specs.Folds.{fillTo}
 use Rattle.folds.proofs.Lists.{length-fillTo, fillTo-below, fillTo-from}
-use Rattle.folds.proofs.Numbers.{below-suc}
+use Rattle.folds.proofs.Numbers.{le-or-lt, below-suc}
 use Rattle.folds.specs.Stored.{Stored}
 
 module _ (f : ℕ → ℕ) (at : ℕ) (w : List ℕ) where
@@ -31,6 +32,28 @@ module _ (f : ℕ → ℕ) (at : ℕ) (w : List ℕ) where
 
   pub stored-all : {k n : ℕ} {w' : List ℕ} → Stored f at k w w' → k ≤ n → n ≤ k → Stored f at n w w'
   stored-all {k} {n} {w'} so-far p q = subst (λ (m : ℕ). Stored f at m w w') (le-antisymm p q) so-far
+
+-- one run of stores after another
+module _ (f : ℕ → ℕ) (at : ℕ) where
+  pub stored-more : {n m : ℕ} {w w' w'' : List ℕ} → Stored f at n w w' → Stored (λ k. f (n + k)) (at + n) m w' w'' → Stored f at (n + m) w w''
+  stored-more {n} {m} {w} {w'} {w''} first second = record {
+    size = second .size ∙ first .size;
+    part = λ k h.
+        ⊎-elim
+        (λ (l : n ≤ k). let e : n + (k - n) ≡ k = omega arith in
+        subst (λ (j : ℕ). getD w'' (at + j) 0 ≡ f j) e
+        (ap (λ (p : ℕ). getD w'' p 0) (let z : at + (n + (k - n)) ≡ at + n + (k - n) = omega arith in z) ∙ second .part (k - n) (omega arith)))
+        (λ (l : k < n). second .before (at + k) (omega arith) ∙ first .part k l)
+        (le-or-lt n k);
+    before = λ p h. second .before p (omega arith) ∙ first .before p h;
+    after = λ p h. second .after p (omega arith) ∙ first .after p (omega arith);
+  }
+
+-- the same words from the same place
+pub stored-same : {f g : ℕ → ℕ} {at at' n : ℕ} {w w' : List ℕ} → at ≡ at' → ((k : ℕ) → k < n → f k ≡ g k) → Stored f at n w w' → Stored g at' n w w'
+stored-same {f} {g} {at} {at'} {n} {w} {w'} e same stored =
+    subst (λ (p : ℕ). Stored g p n w w') e
+    (record { size = stored .size; part = λ k h. stored .part k h ∙ same k h; before = stored .before; after = stored .after })
 
 -- a list that was filled from its start
 pub filled-stored : {f : ℕ → ℕ} {n : ℕ} {w w' : List ℕ} → w' ≡ fillTo f n w → n ≤ length w → Stored f 0 n w w'

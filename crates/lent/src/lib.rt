@@ -47,5 +47,6 @@ pub fn marked() -> Figure {
         pd: MARK,
         md: MARK,
         ecb: [wide(MARK); 4],
+        data_ecb: [wide(MARK); 4],
     }
 }

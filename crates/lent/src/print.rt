@@ -97,12 +97,14 @@ fn print_unless_marked(number: u64, f: Figure) -> u64
 // Whether a record is as `marked` has it.
 fn is_marked(f: Figure) -> bool {
     let ecb = f.ecb;
+    let data = f.data_ecb;
     f.core == MARK
         && f.period == MARK
         && f.deadline == MARK
         && f.pd == MARK
         && f.md == MARK
         && are_marked(ecb)
+        && are_marked(data)
 }
 
 fn are_marked(words: [u64; 4]) -> bool {
@@ -110,17 +112,24 @@ fn are_marked(words: [u64; 4]) -> bool {
     words[0] == mark && words[1] == mark && words[2] == mark && words[3] == mark
 }
 
-// Its number from 1, core, T, D, PD, MD and the words of its ECB.
+// Its number from 1, core, T, D, PD, MD and the words of the ECB of each cache.
 fn print_record(number: u64, f: Figure) {
+    let ecb = f.ecb;
+    let data = f.data_ecb;
     io::print_decimal(STDOUT_FILENO, number);
     print_field(wide(f.core));
     print_field(wide(f.period));
     print_field(wide(f.deadline));
     print_field(wide(f.pd));
     print_field(wide(f.md));
-    print_field(f.ecb[0]);
-    print_field(f.ecb[1]);
-    print_field(f.ecb[2]);
-    print_field(f.ecb[3]);
+    print_words(ecb);
+    print_words(data);
     end_line();
+}
+
+fn print_words(words: [u64; 4]) {
+    print_field(words[0]);
+    print_field(words[1]);
+    print_field(words[2]);
+    print_field(words[3]);
 }

@@ -14,10 +14,10 @@ use Rattle.folds.specs.Folds.{onlyIf}
 use Rattle.entries.specs.Entries.{found, shifted}
 use Rattle.entries.specs.Marks.{markMiss, markHit, markLoad, slotHeld, slotMarks, slotMissed}
 
--- the entries of a set lie among 2048 words
-pub entries-fit : (s ways : ℕ) → s < 256 → ways ≤ 8 → s * ways + ways ≤ 2048
+-- the entries of a set lie among 4096 words
+pub entries-fit : (s ways : ℕ) → s < 512 → ways ≤ 8 → s * ways + ways ≤ 4096
 entries-fit s ways h k =
-    let most : suc s * ways ≤ 256 * 8 = mul-le-mul {n₂ = 256} h k in
+    let most : suc s * ways ≤ 512 * 8 = mul-le-mul {n₂ = 512} h k in
     omega (arith, most, suc-mul s ways)
 
 -- the lowest bit set

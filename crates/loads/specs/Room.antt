@@ -1,4 +1,4 @@
--- For the code: what the scan of a slot asks of its buffers: room for eight blocks in each of 256 sets, and for the marks of 1,024 instructions.
+-- For the code: what the scan of a slot asks of its buffers: room for eight blocks in each of 512 places, and for the marks of 1,024 instructions.
 -- Assumes nothing.
 use Prim.Native.Nat.{ℕ, _≤_}
 use mathlib.Core.List.{List}
@@ -7,5 +7,5 @@ use lib.ListN.{length}
 pub record Room (base ways : ℕ) (held marks : List ℕ) : Type 0 where
   pub low : base ≤ 67108864
   pub few : ways ≤ 8
-  pub entries : 2048 ≤ length held
+  pub entries : 4096 ≤ length held
   pub slots : 2048 ≤ length marks

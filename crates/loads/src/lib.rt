@@ -17,7 +17,7 @@ pub fn mark_ways(
     held: &mut [u64],
     marks: &mut [u32],
 ) -> u32
-    requires { ⌜ (Room base ways (now held) (now marks)) × (s < 256) × (e < 2048) × (block < 65536) ⌝ }
+    requires { ⌜ (Room base ways (now held) (now marks)) × (s < 512) × (e < 2048) × (block < 65536) ⌝ }
     ensures { λ r. ⌜ (r ≡ slotMissed base ways s (block + 1) (now (held .entry))) × (now (held .exit) ≡ slotHeld base ways s (block + 1) e (now (held .entry)))
         × (now (marks .exit) ≡ slotMarks base ways s (block + 1) e (now (held .entry)) (now (marks .entry))) × (r ≤ 1) ⌝ }
 {
@@ -42,7 +42,7 @@ pub fn mark_one(
     held: &mut [u64],
     marks: &mut [u32],
 ) -> u32
-    requires { ⌜ (Room base 1 (now held) (now marks)) × (s < 256) × (e < 2048) × (block < 65536) ⌝ }
+    requires { ⌜ (Room base 1 (now held) (now marks)) × (s < 512) × (e < 2048) × (block < 65536) ⌝ }
     ensures { λ r. ⌜ (r ≡ slotMissed base 1 s (block + 1) (now (held .entry))) × (now (held .exit) ≡ slotHeld base 1 s (block + 1) e (now (held .entry)))
         × (now (marks .exit) ≡ slotMarks base 1 s (block + 1) e (now (held .entry)) (now (marks .entry))) × (r ≤ 1) ⌝ }
 {

@@ -5,16 +5,16 @@ use mathlib.Core.Bool.{Bool, cond, not, _&&_, _||_}
 use mathlib.Core.List.{List, map}
 use mathlib.Core.Path.{_≡_, sym, ap, ap₂, subst, _∙_}
 use native.Mathlib.Decide.{ℕ-discrete}
-use native.Mathlib.Nat.{mod-lt}
 use native.Mathlib.Numerals.{add-one}
 use native.Mathlib.Omega.{arith}
+use borrow.Author.Tests.{eq-eqb}
 use lib.Dec.{eqb}
 use lib.ListN.{length}
 use Rattle.folds.specs.Folds.{onlyIf, countTo, anyTo}
 use Rattle.folds.proofs.Folds.{countTo-next}
 use Rattle.bitset.specs.Bits.{member, wordsOf}
 use Rattle.bitset.proofs.Sets.{wordsOf-cong}
-use Rattle.board.specs.Layout.{memory, cacheSets, kindOf, blockOf}
+use Rattle.board.specs.Layout.{memory, kindOf, blockOf, firstDataBlock}
 use Rattle.lru.specs.Recency.{recent}
 use Rattle.lru.specs.Slots.{slotMisses}
 use Rattle.lru.proofs.Slots.{before-none}
@@ -22,10 +22,12 @@ use Rattle.lru.proofs.Recent.{recent-none}
 use Rattle.entries.specs.Marks.{slotHeld, slotMarks, slotMissed, Are, entryOf, AllEarlier}
 use Rattle.entries.proofs.Lines.{are-empty}
 use Rattle.entries.proofs.Marking.{Scanned, scan-slot}
-use Rattle.trace.specs.Cache.{setOf, placeOf}
+use Rattle.trace.specs.Cache.{placeOf, allSets}
+use Rattle.trace.specs.Caches.{placeIn, CachesOf}
+use Rattle.trace.specs.declared.cache.Cache.{Cache}
 use Rattle.trace.specs.Traces.{Trace, fetch, work, reads, writes, dataBlock, evicts}
 use Rattle.trace.specs.Slots.{loadAt, touches}
-use Rattle.trace.proofs.Sets.{place-is}
+use Rattle.trace.proofs.Caches.{placeIn-low}
 use Rattle.trace.proofs.Slots.{fetch-slot, read-slot}
 use Rattle.trace.proofs.Touched.{evicts-is}
 use Rattle.accesses.specs.Accesses.{readSlot, dataTouches}
@@ -33,23 +35,17 @@ use Rattle.accesses.proofs.Steps.{read-none, read-load, read-small}
 
 -- with w ways: the slots of the instructions before p are scanned, and the loads that miss
 abbrev pub ScannedTo : Trace → ℕ → ℕ → List ℕ → List ℕ → ℕ → Type 0
-ScannedTo t w base array marks p = Scanned (placeOf (t .words)) w (loadAt t) base 256 array marks (2 * p)
+ScannedTo t w base array marks p = Scanned (placeOf (t .words)) w (loadAt t) base allSets array marks (2 * p)
 
 abbrev pub misses : Trace → ℕ → ℕ → Bool
 misses t w = slotMisses (placeOf (t .words)) w (loadAt t)
 
-module _ (t : Trace) (w c base : ℕ) (sets : c ≡ cacheSets (t .words)) (some : 1 ≤ c) (few : c ≤ 256) where
+module _ (t : Trace) (w base : ℕ) (code datum : Cache) (caches : CachesOf (t .words) code datum) where
   abbrev place : ℕ → ℕ
   place = placeOf (t .words)
 
-  place-set : (m : ℕ) → setOf c m ≡ place m
-  place-set m = ap (λ (k : ℕ). setOf k m) sets ∙ sym (place-is (t .words) m)
-
-  low : (m : ℕ) → setOf c m < 256
-  low m = omega (arith, few, mod-lt m some)
-
   -- before the first slot nothing is held
-  pub scan-start : (array marks : List ℕ) → 2048 ≤ length array → w ≤ 8 → 2048 ≤ length marks → AllEarlier base array → ScannedTo t w base array marks 0
+  pub scan-start : (array marks : List ℕ) → 4096 ≤ length array → w ≤ 8 → 2048 ≤ length marks → AllEarlier base array → ScannedTo t w base array marks 0
   scan-start array marks room small long all = (
     omega arith,
     long,
@@ -59,7 +55,18 @@ module _ (t : Trace) (w c base : ℕ) (sets : c ≡ cacheSets (t .words)) (some 
     (λ j. omega (arith, all j)),
   )
 
-  module _ (p block word : ℕ) (small : block < 65536) (short : 2 * p + 1 < 2048) (eb : block ≡ fetch t p) (ew : word ≡ work t p) where
+  module _ (p block word : ℕ) (small : block < firstDataBlock) (large : 1 ≤ kindOf word → firstDataBlock ≤ blockOf word) (short : 2 * p + 1 < 2048)
+      (eb : block ≡ fetch t p) (ew : word ≡ work t p) where
+    -- the places of both blocks
+    abbrev s : ℕ
+    s = placeIn code block
+
+    abbrev s' : ℕ
+    s' = placeIn datum (blockOf word)
+
+    data-place : 1 ≤ kindOf word → s' ≡ place (blockOf word)
+    data-place k = sym (caches .data-place (blockOf word) (large k))
+
     fetch-is : block + 1 ≡ loadAt t (2 * p)
     fetch-is = ap (λ (m : ℕ). m + 1) eb ∙ add-one (fetch t p) ∙ sym (fetch-slot t p)
 
@@ -67,46 +74,50 @@ module _ (t : Trace) (w c base : ℕ) (sets : c ≡ cacheSets (t .words)) (some 
     unfolding readSlot
     read-is = ap readSlot ew ∙ ap (λ (m : ℕ). cond (reads t p) m 0) (add-one (dataBlock t p)) ∙ sym (read-slot t p)
 
-    fetch-own : (m : ℕ) → block + 1 ≡ suc m → setOf c block ≡ place m
-    fetch-own m q = place-set block ∙ ap place (omega (arith, q))
+    fetch-own : (m : ℕ) → block + 1 ≡ suc m → s ≡ place m
+    fetch-own m q = sym (caches .code-place block small) ∙ ap place (omega (arith, q))
 
-    read-own : (m : ℕ) → readSlot word ≡ suc m → setOf c (blockOf word) ≡ place m
+    read-own : (m : ℕ) → readSlot word ≡ suc m → s' ≡ place m
     read-own m q = go (ℕ-discrete (kindOf word) 1)
       where
-        go : Dec (kindOf word ≡ 1) → setOf c (blockOf word) ≡ place m
-        go (yes k) = place-set (blockOf word) ∙ ap place (let z : blockOf word + 1 ≡ suc m = read-load word k ∙ q in omega (arith, z))
+        go : Dec (kindOf word ≡ 1) → s' ≡ place m
+        go (yes k) = data-place (omega (arith, k)) ∙ ap place (let z : blockOf word + 1 ≡ suc m = read-load word k ∙ q in omega (arith, z))
         go (no n) = absurd (let z : 0 ≡ suc m = sym (read-none word n) ∙ q in omega (arith, z))
 
-    -- the sets that the instruction touches, in two parts
-    pub touches-parts : (s : ℕ) → (eqb (setOf c block) s || dataTouches c word s) ≡ touches t place p s
+    -- the places that the instruction touches, in two parts
+    pub touches-parts : (i : ℕ) → (eqb s i || dataTouches datum word i) ≡ touches t place p i
     unfolding touches
-    touches-parts s =
-        ap₂ (λ (x y : ℕ). eqb x s || (not (eqb (kindOf word) 0) && eqb y s)) (place-set block) (place-set (blockOf word))
-        ∙ ap₂ (λ (x y : ℕ). eqb (place x) s || (not (eqb (kindOf y) 0) && eqb (place (blockOf y)) s)) eb ew
+    touches-parts i =
+        ap₂ (λ (x : ℕ) (u : Bool). eqb x i || u) (sym (caches .code-place block small)) (go (ℕ-discrete (kindOf word) 0))
+        ∙ ap₂ (λ (x y : ℕ). eqb (place x) i || (not (eqb (kindOf y) 0) && eqb (place (blockOf y)) i)) eb ew
+      where
+        go : Dec (kindOf word ≡ 0) → dataTouches datum word i ≡ (not (eqb (kindOf word) 0) && eqb (place (blockOf word)) i)
+        go (yes k) = rw (eq-eqb (kindOf word) 0 k)
+        go (no n) = ap (λ (x : ℕ). not (eqb (kindOf word) 0) && eqb x i) (data-place (omega (arith, n)))
 
     module _ (array array' array'' marks marks' marks'' : List ℕ) (r r' : ℕ)
-        (f : array' ≡ slotHeld base w (setOf c block) (block + 1) (2 * p) array)
-        (g : marks' ≡ slotMarks base w (setOf c block) (block + 1) (2 * p) array marks)
-        (n : r ≡ slotMissed base w (setOf c block) (block + 1) array)
-        (f' : array'' ≡ slotHeld base w (setOf c (blockOf word)) (readSlot word) (2 * p + 1) array')
-        (g' : marks'' ≡ slotMarks base w (setOf c (blockOf word)) (readSlot word) (2 * p + 1) array' marks')
-        (n' : r' ≡ slotMissed base w (setOf c (blockOf word)) (readSlot word) array' + onlyIf (eqb (kindOf word) 2) 1)
+        (f : array' ≡ slotHeld base w s (block + 1) (2 * p) array)
+        (g : marks' ≡ slotMarks base w s (block + 1) (2 * p) array marks)
+        (n : r ≡ slotMissed base w s (block + 1) array)
+        (f' : array'' ≡ slotHeld base w s' (readSlot word) (2 * p + 1) array')
+        (g' : marks'' ≡ slotMarks base w s' (readSlot word) (2 * p + 1) array' marks')
+        (n' : r' ≡ slotMissed base w s' (readSlot word) array' + onlyIf (eqb (kindOf word) 2) 1)
         (so-far : ScannedTo t w base array marks p) where
       abbrev At : List ℕ → List ℕ → ℕ → Type 0
-      At = Scanned place w (loadAt t) base 256
+      At = Scanned place w (loadAt t) base allSets
 
       fetched : At array' marks' (suc (2 * p)) × (r ≡ onlyIf (misses t w (2 * p)) 1)
       fetched =
-          let so = scan-slot place w (loadAt t) base 256 (2 * p) (setOf c block) array marks (omega arith) (low block) so-far (block + 1) fetch-is (omega arith) fetch-own in
+          let so = scan-slot place w (loadAt t) base allSets (2 * p) s array marks (omega arith) (placeIn-low code (caches .code-placing) block) so-far (block + 1) fetch-is (omega arith) fetch-own in
           (rw (f, g) (so .0), n ∙ so .1)
 
       accessed : At array'' marks'' (suc (suc (2 * p))) × (r' ≡ onlyIf (misses t w (suc (2 * p))) 1 + onlyIf (eqb (kindOf word) 2) 1)
       accessed =
           let next : 2 * p + 1 ≡ suc (2 * p) = add-one (2 * p) in
-          let so = scan-slot place w (loadAt t) base 256 (suc (2 * p)) (setOf c (blockOf word)) array' marks' (omega arith) (low (blockOf word)) (fetched .0) (readSlot word) read-is (read-small word) read-own in (
+          let so = scan-slot place w (loadAt t) base allSets (suc (2 * p)) s' array' marks' (omega arith) (placeIn-low datum (caches .data-placing) (blockOf word)) (fetched .0) (readSlot word) read-is (read-small word) read-own in (
             rw (
-              f' ∙ ap (λ (e : ℕ). slotHeld base w (setOf c (blockOf word)) (readSlot word) e array') next,
-              g' ∙ ap (λ (e : ℕ). slotMarks base w (setOf c (blockOf word)) (readSlot word) e array' marks') next,
+              f' ∙ ap (λ (e : ℕ). slotHeld base w s' (readSlot word) e array') next,
+              g' ∙ ap (λ (e : ℕ). slotMarks base w s' (readSlot word) e array' marks') next,
             ) (so .0),
             n' ∙ ap (λ (k : ℕ). k + onlyIf (eqb (kindOf word) 2) 1) (so .1),
           )
@@ -134,5 +145,5 @@ module _ (t : Trace) (w c base : ℕ) (sets : c ≡ cacheSets (t .words)) (some 
 
 -- the whole trace
 pub evict-words : (t : Trace) (out : List ℕ) → 2 ≤ memory (t .words) → ((p : ℕ) → p < t .len → kindOf (work t p) ≤ 2)
-    → wordsOf (λ s. member out s || anyTo (λ p. touches t (placeOf (t .words)) p s) (t .len)) ≡ wordsOf (λ s. member out s || evicts t s)
-evict-words t out cached kinds = wordsOf-cong _ _ (λ s h. ap (λ (u : Bool). member out s || u) (evicts-is t s cached kinds))
+    → wordsOf 8 (λ s. member out s || anyTo (λ p. touches t (placeOf (t .words)) p s) (t .len)) ≡ wordsOf 8 (λ s. member out s || evicts t s)
+evict-words t out cached kinds = wordsOf-cong 8 _ _ (λ s h. ap (λ (u : Bool). member out s || u) (evicts-is t s cached kinds))

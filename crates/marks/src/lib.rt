@@ -1,9 +1,9 @@
-// The scan of a trace under a cache: MD, the sets that it touches, and a mark for each of its slots.
+// The scan of a trace under a cache or two: MD, the places that it touches, and a mark for each of its slots.
 use accesses::mark_data;
 use accesses::mark_load;
 use board::fields;
 use folds::index;
-use trace::cache::cache_of;
+use trace::cache::caches_of;
 use trace::fetch_word;
 use trace::work_word;
 ghost use mathlib.Core.Path.{_≡_};
@@ -19,8 +19,8 @@ ghost use Rattle.trace.specs.Traces.{traceMD, evicts};
 ghost use Rattle.trace.specs.Places.{traceAt, Lies};
 ghost use Rattle.trace.specs.Slots.{loadAt};
 
-// MD of a trace: its loads that miss, and its writes. The sets of all blocks that it touches are added to `ecb`, and each of its slots is marked.
-// `held` is room for the blocks of all sets; it may have what earlier traces left there, since `base` is another for each trace.
+// MD of a trace: its loads that miss, and its writes. The places of all blocks that it touches are added to `ecb`, and each of its slots is marked.
+// `held` is room for the blocks of all places; it may have what earlier traces left there, since `base` is another for each trace.
 pub fn mark_trace(
     board: &[u32],
     start: usize,
@@ -30,22 +30,24 @@ pub fn mark_trace(
     ecb: &mut [u64],
     marks: &mut [u32],
 ) -> u32
-    requires { ⌜ (Sound (now board)) × (Lies (now board) start len) × (memory (now board) ≡ 2) × (base ≤ 67108864) × (AllEarlier base (now held))
-        × (2048 ≤ length (now held)) × (length (now ecb) ≡ 4) × (2048 ≤ length (now marks)) ⌝ }
+    requires { ⌜ (Sound (now board)) × (Lies (now board) start len) × (2 ≤ memory (now board)) × (base ≤ 67108864) × (AllEarlier base (now held))
+        × (4096 ≤ length (now held)) × (length (now ecb) ≡ 8) × (2048 ≤ length (now marks)) ⌝ }
     ensures { λ r. ⌜ (r ≡ traceMD (traceAt (now (board .entry)) start len))
         × (Marked (placeOf (now (board .entry))) (ways (now (board .entry))) (loadAt (traceAt (now (board .entry)) start len)) (now (marks .exit)) (2 * len))
-        × (now (ecb .exit) ≡ wordsOf (λ (s : ℕ). member (now (ecb .entry)) s || evicts (traceAt (now (board .entry)) start len) s))
+        × (now (ecb .exit) ≡ wordsOf 8 (λ (s : ℕ). member (now (ecb .entry)) s || evicts (traceAt (now (board .entry)) start len) s))
         × (AllEarlier (nextBase base) (now (held .exit))) ⌝ }
 {
-    let cache = cache_of(board);
+    let caches = caches_of(board);
+    let code = caches.code;
+    let data = caches.data;
     let ways = index(fields::ways(board));
     let mut n: u32 = 0;
     let mut p: usize = 0;
     while p < len {
         let block = fetch_word(board, start, len, p);
         let w = work_word(board, start, len, p);
-        n += mark_load(cache, ways, base, block, 2 * p, held, ecb, marks);
-        n += mark_data(cache, ways, base, w, 2 * p + 1, held, ecb, marks);
+        n += mark_load(code, ways, base, block, 2 * p, held, ecb, marks);
+        n += mark_data(data, ways, base, w, 2 * p + 1, held, ecb, marks);
         p += 1;
     }
     n

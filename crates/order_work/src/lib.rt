@@ -3,6 +3,7 @@ use answers::Answer;
 use answers::taken::conclude;
 use call_work::begin;
 use checks::check_in_order;
+use figures::ECB_WORDS;
 use folds::index;
 use refusals::Verdict;
 ghost use mathlib.Core.Path.{_≡_};
@@ -25,7 +26,7 @@ pub fn analyse_in_order<'a>(
     room: usize,
     records: &mut usize,
     words: &mut [u32],
-    sets: &mut [u64; 256],
+    sets: &mut [u64; ECB_WORDS],
     order: &'a [u32],
 ) -> Answer
     requires { ⌜ 256 ≤ length (now words) ⌝ }

@@ -2,14 +2,12 @@
 -- Assumes nothing.
 use Prim.Native.Nat.{ℕ, zero, suc, _%_, _≤_, zero-le}
 use native.Mathlib.Omega.{arith}
-use mathlib.Core.Bool.{Bool, true, false, cond}
-use mathlib.Core.Path.{_≡_, ap, sym, _∙_}
+use mathlib.Core.Bool.{Bool}
+use mathlib.Core.Path.{_≡_, ap, sym}
 use mathlib.Core.List.{List}
-use borrow.Author.Tests.{eq-eqb, ne-eqb}
-use lib.Dec.{eqb}
 use lib.ListN.{getD, List·getD-eq-default}
-use Rattle.board.specs.Layout.{word, memory, firstDataBlock}
-use Rattle.ranges.specs.Ranges.{within, isZero, rangeIf, headerRanges, headerOk, taskRanges, taskOk}
+use Rattle.board.specs.Layout.{word}
+use Rattle.ranges.specs.Ranges.{isZero, headerRanges, headerOk, taskRanges, taskOk}
 use Rattle.ranges.specs.Parts.{wordOk}
 use Rattle.ranges.specs.declared.Part.{Part}
 
@@ -26,20 +24,6 @@ headerRow b {i} e = entry (headerRanges b) (word b i) e
 pub headerSpare : (b : List ℕ) (i : ℕ) → 17 ≤ i → isZero (word b i) ≡ headerOk b i
 unfolding headerOk headerRanges
 headerSpare b i h = ap (λ (f : ℕ → Bool). f (word b i)) (sym (List·getD-eq-default (headerRanges b) isZero h))
-
--- word 13: the sets of a cache, or the held code blocks of a scratchpad
-module _ (b : List ℕ) {i : ℕ} (at : i ≡ 13) where
-  choice : (t : Bool) → eqb (memory b) 2 ≡ t → cond t (within 1 256 (word b i)) (rangeIf (eqb (memory b) 1) 0 firstDataBlock (word b i)) ≡ headerOk b i
-  unfolding headerRanges
-  choice t e =
-      ap (λ (s : Bool). cond s (within 1 256 (word b i)) (rangeIf (eqb (memory b) 1) 0 firstDataBlock (word b i))) (sym e)
-      ∙ headerRow b at
-
-  pub setsRow : memory b ≡ 2 → within 1 256 (word b i) ≡ headerOk b i
-  setsRow m = choice true (eq-eqb _ 2 m)
-
-  pub heldRow : (memory b ≡ 2 → ⊥) → rangeIf (eqb (memory b) 1) 0 firstDataBlock (word b i) ≡ headerOk b i
-  heldRow m = choice false (ne-eqb _ 2 m)
 
 pub taskRow : (b : List ℕ) (i : ℕ) {k : ℕ} → i % 5 ≡ k → getD (taskRanges b i) k isZero (word b i) ≡ taskOk b i
 unfolding taskOk

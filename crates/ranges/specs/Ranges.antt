@@ -5,7 +5,7 @@ use mathlib.Core.Bool.{Bool, cond, _&&_}
 use mathlib.Core.List.{List, [], _∷_}
 use lib.ListN.{getD}
 use lib.Dec.{leb, ltb, eqb}
-use Rattle.board.specs.Layout.{word, cores, memory, bus, refresh, kindOf, blockOf, mostTasks, longest, mostRefreshRows, mostPutOff, firstDataBlock, isWays}
+use Rattle.board.specs.Layout.{word, cores, memory, bus, refresh, kindOf, blockOf, mostTasks, longest, mostRefreshRows, mostPutOff, firstDataBlock, mostSets, isWays}
 
 -- low .. high
 abbrev pub within : ℕ → ℕ → ℕ → Bool
@@ -22,6 +22,10 @@ testIf used test x = cond used (test x) (isZero x)
 abbrev pub rangeIf : Bool → ℕ → ℕ → ℕ → Bool
 rangeIf used low high = testIf used (within low high)
 
+-- the sets of a cache where there is one, else the blocks that a scratchpad holds where there is one, and 0 where there is neither
+abbrev pub setsOrHeld : Bool → Bool → ℕ → Bool
+setsOrHeld cached held x = cond cached (within 1 mostSets x) (rangeIf held 0 firstDataBlock x)
+
 -- the range of each header word; the words past these are spare
 unfoldable pub headerRanges : List ℕ → List (ℕ → Bool)
 headerRanges b =
@@ -29,7 +33,7 @@ headerRanges b =
     ∷ within 1 mostTasks
     ∷ within 1 512
     ∷ within 1 8192
-    ∷ within 0 2
+    ∷ within 0 3
     ∷ within 0 4
     ∷ rangeIf (leb 3 (bus b)) 1 8
     ∷ within 1 255
@@ -38,9 +42,9 @@ headerRanges b =
     ∷ rangeIf (leb 1 (refresh b)) 1 mostRefreshRows
     ∷ rangeIf (leb 1 (refresh b)) 0 255
     ∷ leb 1
-    ∷ (λ x. cond (eqb (memory b) 2) (within 1 256 x) (rangeIf (eqb (memory b) 1) 0 firstDataBlock x))
-    ∷ rangeIf (eqb (memory b) 1) 0 firstDataBlock
-    ∷ testIf (eqb (memory b) 2) isWays
+    ∷ setsOrHeld (leb 2 (memory b)) (eqb (memory b) 1)
+    ∷ setsOrHeld (eqb (memory b) 3) (eqb (memory b) 1)
+    ∷ testIf (leb 2 (memory b)) isWays
     ∷ rangeIf (eqb (refresh b) 2) 0 mostPutOff
     ∷ []
 

@@ -3,12 +3,13 @@ use board::FIRST_DATA_BLOCK;
 use board::LONGEST;
 use board::MOST_PUT_OFF;
 use board::MOST_REFRESH_ROWS;
+use board::MOST_SETS;
 use board::work;
 ghost use mathlib.Core.Path.{_≡_};
 ghost use Prim.Native.Nat.{_≤_, _<_};
 ghost use lib.ListN.{length};
 ghost use Rattle.board.specs.Layout.{isWays};
-ghost use Rattle.ranges.specs.Ranges.{headerOk, taskOk, workOk, testIf, rangeIf};
+ghost use Rattle.ranges.specs.Ranges.{headerOk, taskOk, workOk, testIf, rangeIf, setsOrHeld};
 ghost use Rattle.ranges.specs.Ranges.{within as Ranges·within};
 ghost use Rattle.ranges.specs.Parts.{wordOk};
 
@@ -35,6 +36,17 @@ fn range_if(used: bool, low: u32, high: u32, x: u32) -> bool
     if used { within(low, high, x) } else { x == 0 }
 }
 
+// Whether x may be the sets of a cache where there is one, else the blocks that a scratchpad holds where there is one, and 0 where there is neither.
+fn sets_or_held(cached: bool, held: bool, x: u32) -> bool
+    ensures { λ r. ⌜ r ≡ setsOrHeld cached held x ⌝ }
+{
+    if cached {
+        within(1, MOST_SETS, x)
+    } else {
+        range_if(held, 0, FIRST_DATA_BLOCK, x)
+    }
+}
+
 // Whether x may be the ways of a cache where there is one, and 0 where not.
 fn ways_if(cached: bool, x: u32) -> bool
     ensures { λ r. ⌜ r ≡ testIf cached isWays x ⌝ }
@@ -52,6 +64,8 @@ fn header_ok(board: &[u32], i: usize) -> bool
     ensures { λ r. ⌜ r ≡ headerOk (now (board .entry)) i ⌝ }
 {
     let memory = board[4];
+    let held = memory == 1;
+    let cached = 2 <= memory;
     let slotted = 3 <= board[5];
     let refresh = board[8];
     let refreshed = 1 <= refresh;
@@ -61,7 +75,7 @@ fn header_ok(board: &[u32], i: usize) -> bool
         1 => within(1, 64, x),
         2 => within(1, 512, x),
         3 => within(1, 8192, x),
-        4 => within(0, 2, x),
+        4 => within(0, 3, x),
         5 => within(0, 4, x),
         6 => range_if(slotted, 1, 8, x),
         7 => within(1, 255, x),
@@ -70,15 +84,9 @@ fn header_ok(board: &[u32], i: usize) -> bool
         10 => range_if(refreshed, 1, MOST_REFRESH_ROWS, x),
         11 => range_if(refreshed, 0, 255, x),
         12 => 1 <= x,
-        13 => {
-            if memory == 2 {
-                within(1, 256, x)
-            } else {
-                range_if(memory == 1, 0, FIRST_DATA_BLOCK, x)
-            }
-        }
-        14 => range_if(memory == 1, 0, FIRST_DATA_BLOCK, x),
-        15 => ways_if(memory == 2, x),
+        13 => sets_or_held(cached, held, x),
+        14 => sets_or_held(memory == 3, held, x),
+        15 => ways_if(cached, x),
         16 => range_if(refresh == 2, 0, MOST_PUT_OFF, x),
         _ => x == 0,
     }

@@ -11,12 +11,12 @@ use lib.Dec.{leb, eqb}
 use Rattle.board.specs.Layout as at
 use Rattle.board.specs.Layout.{word, kindOf, blockOf}
 use Rattle.board.specs.Sound.{Between, Sound}
-use Rattle.ranges.specs.Ranges.{within, testIf, rangeIf, headerRanges, headerOk, taskRanges, taskOk, lengthOk, fetchOk, workOk}
+use Rattle.ranges.specs.Ranges.{within, testIf, rangeIf, setsOrHeld, headerRanges, headerOk, taskRanges, taskOk, lengthOk, fetchOk, workOk}
 use Rattle.ranges.proofs.Rows.{headerSpare, taskRow, taskSpare}
 use Rattle.refusals.specs.Refusals.{firstBad, refuseFirst, refusalOf}
 use Rattle.refusals.specs.declared.Verdict.the-variants.{Passed}
 use Rattle.refusals.proofs.Searches.{firstBad-pass, firstBad-none}
-use Rattle.refusals.proofs.Sound.{codeOrSets, WorkOk}
+use Rattle.refusals.proofs.Sound.{WorkOk}
 use Rattle.refusals.proofs.Verdicts.{refuseUnless-true, refuseFirst-none, row1-passed, row2-passed, row3-passed}
 
 -- ---- from facts to tests
@@ -31,11 +31,13 @@ testIf-is false test x h n = eq-eqb x 0 (n refl)
 rangeIf-is : (t : Bool) (low high x : ℕ) → (t ≡ true → Between low high x) → (t ≡ false → x ≡ 0) → rangeIf t low high x ≡ true
 rangeIf-is t low high x h n = testIf-is t (within low high) x (λ u. within-is low high x (h u)) n
 
-codeOrSets-is : (m x : ℕ) → m ≤ 2 → (m ≡ 1 → x ≤ at.firstDataBlock) → (m ≡ 2 → Between 1 256 x) → (m ≡ 0 → x ≡ 0) → codeOrSets m x ≡ true
-codeOrSets-is zero x l h s n = eq-eqb x 0 (n refl)
-codeOrSets-is (suc zero) x l h s n = within-is 0 at.firstDataBlock x (omega arith, h refl)
-codeOrSets-is (suc (suc zero)) x l h s n = within-is 1 256 x (s refl)
-codeOrSets-is (suc (suc (suc m))) x l h s n = absurd (omega arith)
+setsOrHeld-is : (cached held : Bool) (x : ℕ) → (cached ≡ true → Between 1 at.mostSets x) → (held ≡ true → x ≤ at.firstDataBlock)
+    → (cached ≡ false → held ≡ false → x ≡ 0) → setsOrHeld cached held x ≡ true
+setsOrHeld-is true held x s h n = within-is 1 at.mostSets x (s refl)
+setsOrHeld-is false held x s h n = rangeIf-is held 0 at.firstDataBlock x (λ t. (omega arith, h t)) (n refl)
+
+no-memory : (m : ℕ) → m < 2 → (m ≡ 1 → ⊥) → m ≡ 0
+no-memory m l h = omega arith
 
 one-or-more : (n : ℕ) → (n ≡ 0 → ⊥) → 1 ≤ n
 one-or-more n h = omega arith
@@ -68,7 +70,7 @@ module _ (b : List ℕ) (s : Sound b) where
       ∙ next 1 (omega arith) (within-is 1 at.mostTasks _ (s .tasks))
       ∙ next 2 (omega arith) (within-is 1 512 _ (s .traces))
       ∙ next 3 (omega arith) (within-is 1 8192 _ (s .instructions))
-      ∙ next 4 (omega arith) (within-is 0 2 _ (omega arith, s .memory))
+      ∙ next 4 (omega arith) (within-is 0 3 _ (omega arith, s .memory))
       ∙ next 5 (omega arith) (within-is 0 4 _ (omega arith, s .bus))
       ∙ next 6 (omega arith) (rangeIf-is _ 1 8 _ (λ t. s .slots (leb-true 3 _ t)) (λ t. s .noSlots (leb-false 3 _ t)))
       ∙ next 7 (omega arith) (within-is 1 255 _ (s .access))
@@ -77,9 +79,11 @@ module _ (b : List ℕ) (s : Sound b) where
       ∙ next 10 (omega arith) (rangeIf-is _ 1 at.mostRefreshRows _ (λ t. s .rows (leb-true 1 _ t)) (λ t. s .noRefresh (leb-false 1 _ t) .1))
       ∙ next 11 (omega arith) (rangeIf-is _ 0 255 _ (λ t. (omega arith, s .refreshCycles)) (λ t. s .noRefresh (leb-false 1 _ t) .2))
       ∙ next 12 (omega arith) (le-leb 1 _ (s .limit))
-      ∙ next 13 (omega arith) (codeOrSets-is (at.memory b) _ (s .memory) (s .held) (s .sets) (s .noMemory))
-      ∙ next 14 (omega arith) (rangeIf-is _ 0 at.firstDataBlock _ (λ t. (omega arith, s .heldData)) (λ t. s .noHeldData (eqb-false _ 1 t)))
-      ∙ next 15 (omega arith) (testIf-is (eqb (at.memory b) 2) at.isWays _ (λ t. s .ways (eqb-true _ 2 t)) (λ t. s .noWays (eqb-false _ 2 t)))
+      ∙ next 13 (omega arith) (setsOrHeld-is (leb 2 (at.memory b)) (eqb (at.memory b) 1) _
+      (λ t. s .sets (leb-true 2 _ t)) (λ t. s .held (eqb-true _ 1 t)) (λ t u. s .noMemory (no-memory _ (leb-false 2 _ t) (eqb-false _ 1 u))))
+      ∙ next 14 (omega arith) (setsOrHeld-is (eqb (at.memory b) 3) (eqb (at.memory b) 1) _
+      (λ t. s .dataSets (eqb-true _ 3 t)) (λ t. s .heldData) (λ t u. s .noData (eqb-false _ 1 u) (eqb-false _ 3 t)))
+      ∙ next 15 (omega arith) (testIf-is (leb 2 (at.memory b)) at.isWays _ (λ t. s .ways (leb-true 2 _ t)) (λ t. s .noWays (leb-false 2 _ t)))
       ∙ next 16 (omega arith) (rangeIf-is _ 0 at.mostPutOff _ (λ t. (omega arith, s .putOff)) (λ t. s .noPutOff (eqb-false _ 2 t)))
       ∙ firstBad-none (headerOk b) 17 20 (omega arith) (λ i l u. sym (headerSpare b i l) ∙ eq-eqb _ 0 (s .spare i l u))
 

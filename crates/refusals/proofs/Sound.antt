@@ -12,7 +12,7 @@ use Rattle.folds.proofs.Numbers.{and-both}
 use Rattle.board.specs.Layout as at
 use Rattle.board.specs.Layout.{word, boardWords, kindOf, blockOf}
 use Rattle.board.specs.Sound.{Between, Sound}
-use Rattle.ranges.specs.Ranges.{within, isZero, testIf, rangeIf, headerRanges, headerOk, taskRanges, taskOk, lengthOk, fetchOk, workOk}
+use Rattle.ranges.specs.Ranges.{within, isZero, testIf, rangeIf, setsOrHeld, headerRanges, headerOk, taskRanges, taskOk, lengthOk, fetchOk, workOk}
 use Rattle.ranges.proofs.Rows.{headerSpare, taskRow}
 use Rattle.refusals.specs.Refusals.{refuseUnless, firstBad, refuseFirst, _orElse_, refusalOf}
 use Rattle.refusals.specs.declared.Verdict.{Verdict}
@@ -42,18 +42,17 @@ bounded false high x e =
     let none : x ≡ 0 = eqb-true x 0 e in
     omega arith
 
--- word 13
-abbrev pub codeOrSets : ℕ → ℕ → Bool
-codeOrSets m x = cond (eqb m 2) (within 1 256 x) (rangeIf (eqb m 1) 0 at.firstDataBlock x)
+-- words 13 and 14
+module _ (cached held : Bool) (x : ℕ) where
+  sets-in : cached ≡ true → setsOrHeld cached held x ≡ true → Between 1 at.mostSets x
+  sets-in u e = within-true 1 at.mostSets x (subst (λ (t : Bool). setsOrHeld t held x ≡ true) u e)
 
-held-code : (m x : ℕ) → m ≡ 1 → codeOrSets m x ≡ true → x ≤ at.firstDataBlock
-held-code m x h e = within-true 0 at.firstDataBlock x (subst (λ (k : ℕ). codeOrSets k x ≡ true) h e) .1
+  none-in : cached ≡ false → held ≡ false → setsOrHeld cached held x ≡ true → x ≡ 0
+  none-in u n e = unused held (within 0 at.firstDataBlock) x n (subst (λ (t : Bool). setsOrHeld t held x ≡ true) u e)
 
-cache-sets : (m x : ℕ) → m ≡ 2 → codeOrSets m x ≡ true → Between 1 256 x
-cache-sets m x h e = within-true 1 256 x (subst (λ (k : ℕ). codeOrSets k x ≡ true) h e)
-
-no-memory : (m x : ℕ) → m ≡ 0 → codeOrSets m x ≡ true → x ≡ 0
-no-memory m x h e = eqb-true x 0 (subst (λ (k : ℕ). codeOrSets k x ≡ true) h e)
+held-in : (cached held : Bool) (x : ℕ) → setsOrHeld cached held x ≡ true → x ≤ at.firstDataBlock
+held-in true held x e = let few = within-true 1 at.mostSets x e in omega arith
+held-in false held x e = bounded held at.firstDataBlock x e
 
 abbrev pub WorkOk : ℕ → Type 0
 WorkOk w = cond (eqb (kindOf w) 0) (eqb (blockOf w) 0) (leb (kindOf w) 2 && leb at.firstDataBlock (blockOf w)) ≡ true
@@ -133,7 +132,7 @@ module _ (b : List ℕ) (e : refusalOf b ≡ Passed) where
     tasks = within-true 1 at.mostTasks _ (header 1 (omega arith));
     traces = within-true 1 512 _ (header 2 (omega arith));
     instructions = within-true 1 8192 _ (header 3 (omega arith));
-    memory = within-true 0 2 _ (header 4 (omega arith)) .1;
+    memory = within-true 0 3 _ (header 4 (omega arith)) .1;
     bus = within-true 0 4 _ (header 5 (omega arith)) .1;
     slots = λ h. used (leb 3 (at.bus b)) 1 8 _ (le-leb 3 _ h) (header 6 (omega arith));
     noSlots = λ h. unused (leb 3 (at.bus b)) (within 1 8) _ (lt-leb 3 _ h) (header 6 (omega arith));
@@ -148,13 +147,16 @@ module _ (b : List ℕ) (e : refusalOf b ≡ Passed) where
       unused (leb 1 (at.refresh b)) (within 0 255) _ (lt-leb 1 _ h) (header 11 (omega arith)),
     );
     limit = leb-true 1 _ (header 12 (omega arith));
-    held = λ m. held-code _ (word b 13) m (header 13 (omega arith));
-    heldData = bounded (eqb (at.memory b) 1) at.firstDataBlock _ (header 14 (omega arith));
-    sets = λ m. cache-sets _ (word b 13) m (header 13 (omega arith));
-    noMemory = λ m. no-memory _ (word b 13) m (header 13 (omega arith));
-    noHeldData = λ h. unused (eqb (at.memory b) 1) (within 0 at.firstDataBlock) _ (ne-eqb _ 1 h) (header 14 (omega arith));
-    ways = λ m. used-test (eqb (at.memory b) 2) at.isWays (word b 15) (eq-eqb _ 2 m) (header 15 (omega arith));
-    noWays = λ h. unused (eqb (at.memory b) 2) at.isWays (word b 15) (ne-eqb _ 2 h) (header 15 (omega arith));
+    held = λ m. held-in (leb 2 (at.memory b)) (eqb (at.memory b) 1) (word b 13) (header 13 (omega arith));
+    heldData = held-in (eqb (at.memory b) 3) (eqb (at.memory b) 1) (word b 14) (header 14 (omega arith));
+    sets = λ m. sets-in (leb 2 (at.memory b)) (eqb (at.memory b) 1) (word b 13) (le-leb 2 _ m) (header 13 (omega arith));
+    dataSets = λ m. sets-in (eqb (at.memory b) 3) (eqb (at.memory b) 1) (word b 14) (eq-eqb _ 3 m) (header 14 (omega arith));
+    noMemory = λ m.
+        none-in (leb 2 (at.memory b)) (eqb (at.memory b) 1) (word b 13)
+        (lt-leb 2 (at.memory b) (omega arith)) (ne-eqb (at.memory b) 1 (λ (e : at.memory b ≡ 1). omega arith)) (header 13 (omega arith));
+    noData = λ h d. none-in (eqb (at.memory b) 3) (eqb (at.memory b) 1) (word b 14) (ne-eqb _ 3 d) (ne-eqb _ 1 h) (header 14 (omega arith));
+    ways = λ m. used-test (leb 2 (at.memory b)) at.isWays (word b 15) (le-leb 2 _ m) (header 15 (omega arith));
+    noWays = λ h. unused (leb 2 (at.memory b)) at.isWays (word b 15) (lt-leb 2 _ h) (header 15 (omega arith));
     putOff = bounded (eqb (at.refresh b) 2) at.mostPutOff _ (header 16 (omega arith));
     noPutOff = λ h. unused (eqb (at.refresh b) 2) (within 0 at.mostPutOff) _ (ne-eqb _ 2 h) (header 16 (omega arith));
     spare = spare-word;

@@ -1,7 +1,7 @@
 -- The figures table as 32-bit words: a buffer of m words has room for m / recordWords records.
 -- Assumes nothing.
 use Prim.Native.Nat.{ℕ, _*_, _/_, _%_, _^_}
-use mathlib.Core.List.{List, [], _∷_}
+use mathlib.Core.List.{List, [], _∷_, _++_}
 use lib.ListN.{length, getD}
 use Rattle.folds.specs.Folds.{fillTo}
 use Rattle.board.specs.Layout.{tasks}
@@ -12,7 +12,7 @@ use Rattle.figures.specs.Figures.{figureOf}
 
 -- the words of a record
 abbrev pub recordWords : ℕ
-recordWords = 13
+recordWords = 21
 
 -- the records that a buffer has room for
 abbrev pub recordRoom : List ℕ → ℕ
@@ -25,15 +25,18 @@ lowHalf x = x % 2 ^ 32
 abbrev pub highHalf : ℕ → ℕ
 highHalf x = x / 2 ^ 32
 
--- a record as words: core, T, D, PD, MD, then each word of ECB as its low and its high half
-unfoldable pub figureWords : Figure → List ℕ
-figureWords f =
-    f .core ∷ f .period ∷ f .deadline ∷ f .pd ∷ f .md
-    ∷ lowHalf (getD (f .ecb) 0 0) ∷ highHalf (getD (f .ecb) 0 0)
-    ∷ lowHalf (getD (f .ecb) 1 0) ∷ highHalf (getD (f .ecb) 1 0)
-    ∷ lowHalf (getD (f .ecb) 2 0) ∷ highHalf (getD (f .ecb) 2 0)
-    ∷ lowHalf (getD (f .ecb) 3 0) ∷ highHalf (getD (f .ecb) 3 0)
+-- an ECB as words: each of its four as its low and its high half
+abbrev pub ecbHalves : List ℕ → List ℕ
+ecbHalves e =
+    lowHalf (getD e 0 0) ∷ highHalf (getD e 0 0)
+    ∷ lowHalf (getD e 1 0) ∷ highHalf (getD e 1 0)
+    ∷ lowHalf (getD e 2 0) ∷ highHalf (getD e 2 0)
+    ∷ lowHalf (getD e 3 0) ∷ highHalf (getD e 3 0)
     ∷ []
+
+-- a record as words: core, T, D, PD, MD, then the ECB of each cache, the code's first
+unfoldable pub figureWords : Figure → List ℕ
+figureWords f = f .core ∷ f .period ∷ f .deadline ∷ f .pd ∷ f .md ∷ (ecbHalves (f .ecb) ++ ecbHalves (f .data_ecb))
 
 abbrev pub figureWord : Figure → ℕ → ℕ
 figureWord f w = getD (figureWords f) w 0

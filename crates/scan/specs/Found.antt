@@ -14,6 +14,6 @@ use Rattle.figures.specs.Rows.{onCoreOf, raised}
 pub record Found (b : List ℕ) (i r : ℕ) (rows : Bool) (p m : ℕ) (ecb ecb' row row' held' : List ℕ) : Type 0 where
   pub pd : p ≡ tracePD (traceOf b r)
   pub md : m ≡ traceMD (traceOf b r)
-  pub joined : ecb' ≡ wordsOf (λ s. member ecb s || evicts (traceOf b r) s)
+  pub joined : ecb' ≡ wordsOf 8 (λ s. member ecb s || evicts (traceOf b r) s)
   pub higher : rows ≡ true → row' ≡ raised (onCoreOf b i (λ j. mostUseful (traceOf b r) (evictedBy b j))) i row
   pub later : AllEarlier (baseOf (r + 1)) held'

@@ -2,6 +2,7 @@
 mod points;
 
 use board::fields;
+use figures::ECB_WORDS;
 use folds::index;
 use marks::mark_trace;
 use points::raise_points;
@@ -9,6 +10,7 @@ use trace::cursor::Cursor;
 use trace::demand;
 use trace::demand::Demand;
 ghost use mathlib.Core.Path.{_≡_};
+ghost use Prim.Native.Nat.{_≤_};
 ghost use lib.ListN.{length};
 ghost use Rattle.board.specs.Layout.{memory};
 ghost use Rattle.entries.specs.Marks.{AllEarlier, baseOf};
@@ -24,43 +26,41 @@ pub fn scan_trace(
     i: usize,
     at: Cursor,
     rows: bool,
-    evicted: &[u64; 256],
+    evicted: &[u64; ECB_WORDS],
     ecb: &mut [u64],
     row: &mut [u32; 64],
-    held: &mut [u64; 2048],
+    held: &mut [u64; 4096],
     marks: &mut [u32; 2048],
     lives: &mut [u64; 2048],
 ) -> Demand
     requires { ⌜ (Ready (now board) i) × (Starts (now board) (at .trace) (at .start)) × (Evicted (now board) i (now evicted))
-        × (AllEarlier (baseOf (at .trace)) (now held)) × (length (now ecb) ≡ 4) ⌝ }
+        × (AllEarlier (baseOf (at .trace)) (now held)) × (length (now ecb) ≡ 8) ⌝ }
     ensures { λ r. ⌜ Found (now (board .entry)) i (at .trace) rows (r .pd) (r .md) (now (ecb .entry)) (now (ecb .exit)) (now (row .entry)) (now (row .exit))
         (now (held .exit)) ⌝ }
 {
     let kind = fields::memory(board);
-    match kind {
-        2 => under_cache(board, i, at, rows, evicted, ecb, row, held, marks, lives),
-        _ => {
-            let len = index(fields::trace_length(board, at.trace));
-            demand::uncached(board, at.start, len)
-        }
+    if 2 <= kind {
+        return under_cache(board, i, at, rows, evicted, ecb, row, held, marks, lives);
     }
+    let len = index(fields::trace_length(board, at.trace));
+    demand::uncached(board, at.start, len)
 }
 
-// The same with a cache.
+// The same with a cache or two.
 fn under_cache(
     board: &[u32],
     i: usize,
     at: Cursor,
     rows: bool,
-    evicted: &[u64; 256],
+    evicted: &[u64; ECB_WORDS],
     ecb: &mut [u64],
     row: &mut [u32; 64],
-    held: &mut [u64; 2048],
+    held: &mut [u64; 4096],
     marks: &mut [u32; 2048],
     lives: &mut [u64; 2048],
 ) -> Demand
     requires { ⌜ (Ready (now board) i) × (Starts (now board) (at .trace) (at .start)) × (Evicted (now board) i (now evicted))
-        × (AllEarlier (baseOf (at .trace)) (now held)) × (length (now ecb) ≡ 4) × (memory (now board) ≡ 2) ⌝ }
+        × (AllEarlier (baseOf (at .trace)) (now held)) × (length (now ecb) ≡ 8) × (2 ≤ memory (now board)) ⌝ }
     ensures { λ r. ⌜ Found (now (board .entry)) i (at .trace) rows (r .pd) (r .md) (now (ecb .entry)) (now (ecb .exit)) (now (row .entry)) (now (row .exit))
         (now (held .exit)) ⌝ }
 {

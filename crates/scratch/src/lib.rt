@@ -1,5 +1,6 @@
 // The word scratch: the figures of every task, laid out for the passes, and a task's sum from them.
 use chains::CHAIN_WORDS;
+use figures::ECB_WORDS;
 use figures::row::place;
 ghost use mathlib.Core.Path.{_≡_};
 ghost use Prim.Native.Nat.{_<_};
@@ -40,7 +41,7 @@ fn add_md(n: usize, scratch: &mut [u32])
 }
 
 // Lays out the figures of every task, with each task's ECB as a record of the sets.
-pub fn prepare(board: &[u32], n: usize, scratch: &mut [u32], sets: &mut [u64; 256])
+pub fn prepare(board: &[u32], n: usize, scratch: &mut [u32], sets: &mut [u64; ECB_WORDS])
     requires { ⌜ Room (now board) n (now scratch) ⌝ }
     ensures { λ _. ⌜ (Prepared (now (board .entry)) n (now (scratch .exit))) × (length (now (scratch .exit)) ≡ length (now (scratch .entry)))
         × (Held (now (board .entry)) n n (now (scratch .exit)) (now (sets .exit))) ⌝ }

@@ -26,7 +26,7 @@ use Rattle.sums.proofs.Rising.{carry-mono}
 pub where-bound : (n l m : ℕ) (test : ℕ → Bool) (f : ℕ → ℕ) → n ≤ l → ((k : ℕ) → k < n → f k ≤ m) → sumWhere test f n ≤ l * m
 where-bound n l m test f h all = le-trans (sumWhere-bound test f n m all) (mul-le-mul h (le-refl m))
 
--- D'(j, k): MD of 1,024 instructions, and the reloads of 256 sets of eight ways
+-- D'(j, k): MD of 1,024 instructions, and the reloads of 512 sets of eight ways
 pub demand-bound : (b : List ℕ) → Sound b → (j k : ℕ) → k < tasks b → memoryDemand b j k ≤ mostDemand
 unfolding memoryDemand
 demand-bound b s j k h = omega (arith, taskMD-bound b s k h, γ-bound b s j k)

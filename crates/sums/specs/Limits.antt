@@ -1,7 +1,7 @@
 -- For the code: how large the numbers of a sum can be, on a board that passed its checks and at times of at most D + 1. It stays below
 -- 2^64 by them: proofs/Bounds.antt proves each, and a reader of the definitions can pass this file by.
 -- Assumes nothing.
-use Prim.Native.Nat.{ℕ, _+_, _*_, _^_}
+use Prim.Native.Nat.{ℕ, _+_, _-_, _*_, _^_}
 use Rattle.board.specs.Layout.{mostTasks, longest}
 
 -- ---- of a board's words
@@ -28,9 +28,9 @@ latestTime = longest + 1
 abbrev pub mostWork : ℕ
 mostWork = 2 ^ 22
 
--- D': MD of 1,024 instructions, and the reloads of 256 sets of eight ways
+-- D': MD of 1,024 instructions, and the reloads of 512 sets of eight ways
 abbrev pub mostDemand : ℕ
-mostDemand = 2 ^ 12
+mostDemand = 2 ^ 13
 
 -- ceil(t/T)
 abbrev pub mostReleases : ℕ
@@ -60,9 +60,9 @@ mostAccesses = mostTasks * mostCarryIn
 
 -- ---- on the bus
 
--- of other cores: TDMA comes nearest, with 7 × 8 × S
+-- of other cores: TDMA has the most, 7 × 8 × S
 abbrev pub mostInterference : ℕ
-mostInterference = 2 ^ 52
+mostInterference = (mostCores - 1) * mostSlots * mostOwnAccesses
 
 -- B, and the refreshes
 abbrev pub mostBusAccesses : ℕ

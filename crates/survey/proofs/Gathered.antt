@@ -27,11 +27,11 @@ largest-turn F b k r trace start at e h = maxTo-turn (λ i. F (taskTrace b k i))
 pub record Gathered (b : List ℕ) (i r : ℕ) (rows : Bool) (pd md : ℕ) (ecb entry row : List ℕ) : Type 0 where
   pub largest-pd : pd ≡ maxTo (λ q. tracePD (taskTrace b i q)) r
   pub largest-md : md ≡ maxTo (λ q. traceMD (taskTrace b i q)) r
-  pub joined : ecb ≡ wordsOf (λ s. anyTo (λ q. evicts (taskTrace b i q) s) r)
+  pub joined : ecb ≡ wordsOf 8 (λ s. anyTo (λ q. evicts (taskTrace b i q) s) r)
   pub higher : rows ≡ true → row ≡ raised (addedBy b i r) i entry
 
 module _ (b : List ℕ) (i : ℕ) (rows : Bool) (entry : List ℕ) where
-  pub gathered-none : (ecb : List ℕ) → ecb ≡ wordsOf (λ s. false) → Gathered b i 0 rows 0 0 ecb entry entry
+  pub gathered-none : (ecb : List ℕ) → ecb ≡ wordsOf 8 (λ s. false) → Gathered b i 0 rows 0 0 ecb entry entry
   gathered-none ecb e = record {
     largest-pd = sym (maxTo-none _);
     largest-md = sym (maxTo-none _);
@@ -42,7 +42,7 @@ module _ (b : List ℕ) (i : ℕ) (rows : Bool) (entry : List ℕ) where
   -- one trace more
   pub gathered-next : (r trace start pd md pd' md' : ℕ) (ecb ecb' row row' : List ℕ) {x y : ℕ} → At b i r trace start
       → Gathered b i r rows pd md ecb entry row → x ≡ tracePD (traceOf b trace) → y ≡ traceMD (traceOf b trace)
-      → ecb' ≡ wordsOf (λ s. member ecb s || evicts (traceOf b trace) s)
+      → ecb' ≡ wordsOf 8 (λ s. member ecb s || evicts (traceOf b trace) s)
       → (rows ≡ true → row' ≡ raised (onCoreOf b i (λ j. mostUseful (traceOf b trace) (evictedBy b j))) i row)
       → pd' ≡ max pd x → md' ≡ max md y
       → Gathered b i (r + 1) rows pd' md' ecb' entry row'
@@ -50,7 +50,7 @@ module _ (b : List ℕ) (i : ℕ) (rows : Bool) (entry : List ℕ) where
     largest-pd = p ∙ largest-turn tracePD b i r trace start at (before .largest-pd) x;
     largest-md = m ∙ largest-turn traceMD b i r trace start at (before .largest-md) y;
     joined =
-        e ∙ ap (λ (t : ℕ). wordsOf (λ s. member ecb s || evicts (traceOf b t) s)) (at .known)
+        e ∙ ap (λ (t : ℕ). wordsOf 8 (λ s. member ecb s || evicts (traceOf b t) s)) (at .known)
         ∙ joined-turn (λ i' s. evicts (taskTrace b i i') s) r ecb (before .joined);
     higher = λ wanted.
         added-turn b i r entry row row' (before .higher wanted)
@@ -59,7 +59,7 @@ module _ (b : List ℕ) (i : ℕ) (rows : Bool) (entry : List ℕ) where
 
   -- all of them
   pub gathered-all : (r pd md : ℕ) (ecb row : List ℕ) → r ≡ traceCount b i → Gathered b i r rows pd md ecb entry row
-      → (pd ≡ taskPD b i) × (md ≡ taskMD b i) × (ecb ≡ wordsOf (evicting b i)) × (rows ≡ true → row ≡ raised (onCoreOf b i (λ j. reloads b j i)) i entry)
+      → (pd ≡ taskPD b i) × (md ≡ taskMD b i) × (ecb ≡ wordsOf 8 (evicting b i)) × (rows ≡ true → row ≡ raised (onCoreOf b i (λ j. reloads b j i)) i entry)
   unfolding taskPD taskMD evicting
   gathered-all r pd md ecb row end all =
       let done : Gathered b i (traceCount b i) rows pd md ecb entry row = subst (λ (k : ℕ). Gathered b i k rows pd md ecb entry row) end all in

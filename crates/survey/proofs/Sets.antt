@@ -11,11 +11,11 @@ use Rattle.bitset.specs.Bits.{member, wordsOf}
 use Rattle.bitset.proofs.Sets.{wordsOf-cong, member-wordsOf}
 
 module _ (f : ℕ → ℕ → Bool) where
-  pub joined-none : wordsOf (λ s. false) ≡ wordsOf (λ s. anyTo (λ i. f i s) 0)
-  joined-none = wordsOf-cong _ _ (λ s h. sym (anyTo-none (λ i. f i s)))
+  pub joined-none : wordsOf 8 (λ s. false) ≡ wordsOf 8 (λ s. anyTo (λ i. f i s) 0)
+  joined-none = wordsOf-cong 8 _ _ (λ s h. sym (anyTo-none (λ i. f i s)))
 
   -- one set more
-  pub joined-turn : (r : ℕ) (set : List ℕ) → set ≡ wordsOf (λ s. anyTo (λ i. f i s) r)
-      → wordsOf (λ s. member set s || f r s) ≡ wordsOf (λ s. anyTo (λ i. f i s) (r + 1))
+  pub joined-turn : (r : ℕ) (set : List ℕ) → set ≡ wordsOf 8 (λ s. anyTo (λ i. f i s) r)
+      → wordsOf 8 (λ s. member set s || f r s) ≡ wordsOf 8 (λ s. anyTo (λ i. f i s) (r + 1))
   joined-turn r set e =
-      wordsOf-cong _ _ (λ s h. anyTo-turn (λ i. f i s) r (ap (λ (w : List ℕ). member w s) e ∙ member-wordsOf _ s h) refl)
+      wordsOf-cong 8 _ _ (λ s h. anyTo-turn (λ i. f i s) r (ap (λ (w : List ℕ). member w s) e ∙ member-wordsOf 8 _ s h) refl)

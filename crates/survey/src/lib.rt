@@ -3,6 +3,7 @@ use bitset::records::read;
 use bitset::records::write;
 use board::MOST_SCRATCH;
 use board::fields;
+use figures::ECB_WORDS;
 use figures::row;
 use folds::index;
 use folds::larger;
@@ -26,7 +27,13 @@ ghost use Rattle.figures.specs.Rows.{Evicting, Evicted, Cores, onCoreOf, raised
 ghost use Rattle.figures.specs.Survey.{Held, Overheads, Written};
 
 // The figures of the tasks below count, and with `rows` the overheads of each with every task.
-pub fn survey(board: &[u32], count: usize, rows: bool, words: &mut [u32], sets: &mut [u64; 256])
+pub fn survey(
+    board: &[u32],
+    count: usize,
+    rows: bool,
+    words: &mut [u32],
+    sets: &mut [u64; ECB_WORDS],
+)
     requires { ⌜ (Sound (now board)) × (count ≤ tasks (now board)) × (4 * tasks (now board) ≤ length (now words))
         × (rows ≡ true → scratchWords (tasks (now board)) ≤ length (now words)) ⌝ }
     ensures { λ _. ⌜ (Held (now (board .entry)) (tasks (now (board .entry))) count (now (words .exit)) (now (sets .exit)))
@@ -34,10 +41,10 @@ pub fn survey(board: &[u32], count: usize, rows: bool, words: &mut [u32], sets: 
         × (length (now (words .exit)) ≡ length (now (words .entry))) ⌝ }
 {
     let n = index(fields::tasks(board));
-    let mut cores = [0u64; 36];
-    let mut evicted = [0u64; 256];
+    let mut cores = [0u64; 72];
+    let mut evicted = [0u64; ECB_WORDS];
     let mut row = [0u32; 64];
-    let mut held = [0u64; 2048];
+    let mut held = [0u64; 4096];
     let mut marks = [0u32; 2048];
     let mut lives = [0u64; 2048];
     let mut at = cursor::first(board);
@@ -69,7 +76,7 @@ pub fn overhead(board: &[u32], i: usize, j: usize) -> u32
 {
     let n = index(fields::tasks(board));
     let mut words = [0u32; MOST_SCRATCH];
-    let mut sets = [0u64; 256];
+    let mut sets = [0u64; ECB_WORDS];
     survey(board, i + 1, true, &mut words, &mut sets);
     words[row::place(n, i) + j]
 }
@@ -78,7 +85,7 @@ pub fn overhead(board: &[u32], i: usize, j: usize) -> u32
 struct Task {
     pd: u32,
     md: u32,
-    ecb: [u64; 4],
+    ecb: [u64; 8],
     next: Cursor,
 }
 
@@ -89,15 +96,15 @@ fn survey_task(
     i: usize,
     first: Cursor,
     rows: bool,
-    ecbs: &[u64; 256],
+    ecbs: &[u64; ECB_WORDS],
     row: &mut [u32; 64],
-    held: &mut [u64; 2048],
+    held: &mut [u64; 4096],
     marks: &mut [u32; 2048],
     lives: &mut [u64; 2048],
 ) -> Task
     requires { ⌜ (Ready (now board) i) × (At (now board) i 0 (first .trace) (first .start)) × (Evicted (now board) i (now ecbs))
         × (AllEarlier (baseOf (first .trace)) (now held)) ⌝ }
-    ensures { λ r. ⌜ (r .pd ≡ taskPD (now (board .entry)) i) × (r .md ≡ taskMD (now (board .entry)) i) × (r .ecb ≡ wordsOf (evicting (now (board .entry)) i))
+    ensures { λ r. ⌜ (r .pd ≡ taskPD (now (board .entry)) i) × (r .md ≡ taskMD (now (board .entry)) i) × (r .ecb ≡ wordsOf 8 (evicting (now (board .entry)) i))
         × (At (now (board .entry)) (i + 1) 0 (r .next .trace) (r .next .start))
         × (rows ≡ true → now (row .exit) ≡ raised (onCoreOf (now (board .entry)) i (λ (j : ℕ). reloads (now (board .entry)) j i)) i (now (row .entry)))
         × (AllEarlier (baseOf (r .next .trace)) (now (held .exit))) ⌝ }
@@ -127,12 +134,12 @@ fn survey_task(
 fn keep(
     board: &[u32],
     i: usize,
-    ecb: [u64; 4],
-    sets: &mut [u64; 256],
-    cores: &mut [u64; 36],
-    evicted: &mut [u64; 256],
+    ecb: [u64; 8],
+    sets: &mut [u64; ECB_WORDS],
+    cores: &mut [u64; 72],
+    evicted: &mut [u64; ECB_WORDS],
 )
-    requires { ⌜ (Ready (now board) i) × (ecb ≡ wordsOf (evicting (now board) i)) × (Evicting (now board) i (now sets))
+    requires { ⌜ (Ready (now board) i) × (ecb ≡ wordsOf 8 (evicting (now board) i)) × (Evicting (now board) i (now sets))
         × (Cores (now board) i (now cores)) × (Evicted (now board) i (now evicted)) ⌝ }
     ensures { λ _. ⌜ (Evicting (now (board .entry)) (i + 1) (now (sets .exit))) × (Cores (now (board .entry)) (i + 1) (now (cores .exit)))
         × (Evicted (now (board .entry)) (i + 1) (now (evicted .exit))) ⌝ }

@@ -3,6 +3,7 @@ pub mod Places
 pub mod Starts
 pub mod Loads
 pub mod Slots
+pub mod Caches
 pub mod Sets
 pub mod Counts
 pub mod Bounds

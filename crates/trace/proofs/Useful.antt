@@ -6,21 +6,22 @@ use mathlib.Core.Bool.{Bool, true, false, cond, _&&_, false≢true}
 use mathlib.Core.List.{reverse}
 use mathlib.Core.Path.{_≡_, sym, ap, _∙_}
 use native.Mathlib.Decide.{ℕ-discrete}
-use native.Mathlib.Nat.{mod-lt}
 use native.Mathlib.Omega.{arith}
 use borrow.Author.Tests.{le-leb}
 use lib.Dec.{eqb}
 use Rattle.folds.specs.Folds.{onlyIf, sumWhere, countTo}
-use Rattle.board.specs.Layout.{memory, cacheSets, ways}
+use Rattle.board.specs.Layout.{memory, ways}
+use Rattle.board.specs.Sound.{Sound}
 use Rattle.lru.specs.Recency.{among, usefulBlock, usefulIn}
 use Rattle.lru.specs.Slots.{withSlot, before}
 use Rattle.lru.proofs.Lists.{among-none, among-behind}
 use Rattle.lru.proofs.Useful.{useful-count}
 use Rattle.lru.proofs.Blocks.{all-blocks}
-use Rattle.trace.specs.Cache.{placeOf}
+use Rattle.trace.specs.Cache.{placeOf, allSets}
 use Rattle.trace.specs.Traces.{Trace, fetch, reads, dataBlock, loadsBefore, loadsFrom, useful, usefulAt}
 use Rattle.trace.specs.Slots.{loadAt}
-use Rattle.trace.proofs.Sets.{place-is}
+use Rattle.trace.proofs.Caches.{place-low}
+use Rattle.trace.proofs.Sets.{usefulAt-places}
 use Rattle.trace.proofs.Slots.{slots-before}
 
 -- blocks that slots load are below n where each slot's number is at most n
@@ -67,10 +68,9 @@ module _ (t : Trace) (cached : 2 ≤ memory (t .words)) (p : ℕ) (small : (i : 
   pub useful-blocks : (s : ℕ) → useful t p s ≡ countTo (λ m. eqb (placeOf (t .words) m) s && isUseful m) 65536
   useful-blocks s = useful-is s ∙ useful-count (placeOf (t .words)) (ways (t .words)) (reverse (loadsBefore t p)) (loadsFrom t p) 65536 past-small s
 
-  pub usefulAt-blocks : (test : ℕ → Bool) → 1 ≤ cacheSets (t .words) → cacheSets (t .words) ≤ 256
-      → usefulAt t test p ≡ countTo (λ m. test (placeOf (t .words) m) && isUseful m) 65536
-  unfolding usefulAt
-  usefulAt-blocks test some few =
-      ap (λ (f : ℕ → ℕ). sumWhere test f 256) (λ i s. useful-is s i)
-      ∙ all-blocks (placeOf (t .words)) (ways (t .words)) (reverse (loadsBefore t p)) (loadsFrom t p) 65536 past-small test 256
-      (λ m h. omega (arith, place-is (t .words) m, mod-lt m some, few))
+  pub usefulAt-blocks : (test : ℕ → Bool) → Sound (t .words) → usefulAt t test p ≡ countTo (λ m. test (placeOf (t .words) m) && isUseful m) 65536
+  usefulAt-blocks test sound =
+      usefulAt-places t test p
+      ∙ ap (λ (f : ℕ → ℕ). sumWhere test f allSets) (λ i s. useful-is s i)
+      ∙ all-blocks (placeOf (t .words)) (ways (t .words)) (reverse (loadsBefore t p)) (loadsFrom t p) 65536 past-small test allSets
+      (λ m h. place-low (t .words) sound cached m)

@@ -5,3 +5,4 @@ pub mod Places
 pub mod Starts
 pub mod Slots
 pub mod Reciprocal
+pub mod Caches

@@ -1,5 +1,5 @@
 -- For the code: the numbers of useful blocks from slot to slot, as the marks of a trace say, and how the code keeps those of one slot. Point p stands before
--- slot 2p; slots 2p and 2p + 1 belong to instruction p.
+-- slot 2p; slots 2p and 2p + 1 belong to instruction p. The sets are those of c caches.
 -- Assumes nothing.
 use Prim.Native.Nat.{ℕ, suc, _+_, _*_, _≤_, _<_}
 use mathlib.Core.Bool.{Bool}
@@ -7,25 +7,25 @@ use mathlib.Core.List.{List}
 use mathlib.Core.Path.{_≡_}
 use lib.ListN.{getD}
 use Rattle.folds.specs.Folds.{sumWhere}
-use Rattle.counts.specs.Planes.{countOf, largest}
+use Rattle.counts.specs.Planes.{setsOf, countOf, largest}
 use Rattle.counts.specs.Turns.{adds, takes}
 
 -- the numbers f e s before slot e of set s change as the first n marks say
-abbrev pub Turning : (ℕ → ℕ → ℕ) → List ℕ → ℕ → Type 0
-Turning f marks n = (e s : ℕ) → e < n → s < 256 → f (suc e) s + takes (getD marks e 0) s ≡ f e s + adds (getD marks e 0) s
+abbrev pub Turning : ℕ → (ℕ → ℕ → ℕ) → List ℕ → ℕ → Type 0
+Turning c f marks n = (e s : ℕ) → e < n → s < setsOf c → f (suc e) s + takes (getD marks e 0) s ≡ f e s + adds (getD marks e 0) s
 
 -- the words have the numbers before slot e
-abbrev pub Shown : (ℕ → ℕ → ℕ) → ℕ → ℕ → List ℕ → Type 0
-Shown f e planes live = (s : ℕ) → s < 256 → countOf live 0 planes s ≡ f e s
+abbrev pub Shown : ℕ → (ℕ → ℕ → ℕ) → ℕ → ℕ → List ℕ → Type 0
+Shown c f e planes live = (s : ℕ) → s < setsOf c → countOf c live 0 planes s ≡ f e s
 
 -- how many blocks are useful at point p in the sets that pass the test
-abbrev pub atPoint : (ℕ → ℕ → ℕ) → (ℕ → Bool) → ℕ → ℕ
-atPoint f test p = sumWhere test (f (2 * p)) 256
+abbrev pub atPoint : ℕ → (ℕ → ℕ → ℕ) → (ℕ → Bool) → ℕ → ℕ
+atPoint c f test p = sumWhere test (f (2 * p)) (setsOf c)
 
 -- there are such numbers, which the planes have room for: so no step of the code overflows
-pub record Tallied (marks : List ℕ) (n planes e : ℕ) (live : List ℕ) : Type 0 where
+pub record Tallied (c : ℕ) (marks : List ℕ) (n planes e : ℕ) (live : List ℕ) : Type 0 where
   pub f : ℕ → ℕ → ℕ
-  pub turning : Turning f marks n
-  pub few : (e s : ℕ) → e ≤ n → s < 256 → f e s ≤ largest planes
-  pub small : (e : ℕ) → e < n → getD marks e 0 < 1024
-  pub shown : Shown f e planes live
+  pub turning : Turning c f marks n
+  pub few : (e s : ℕ) → e ≤ n → s < setsOf c → f e s ≤ largest planes
+  pub small : (e : ℕ) → e < n → getD marks e 0 < 1024 * c
+  pub shown : Shown c f e planes live

@@ -6,6 +6,7 @@ ghost use mathlib.Core.Bool.{Bool, true, false};
 ghost use Prim.Native.Nat.{ℕ, _+_, _-_, _*_, _%_, _≤_, _<_, max};
 ghost use lib.ListN.{length};
 ghost use Rattle.folds.specs.Folds.{maxTo};
+ghost use Rattle.counts.specs.Planes.{setsOf};
 ghost use Rattle.counts.specs.Records.{mostCommon};
 ghost use Rattle.useful.specs.Recorded.{Turning, Shown, atPoint, Tallied};
 
@@ -16,18 +17,20 @@ pub fn record_points(
     marks: &[u32],
     from: usize,
     end: usize,
+    caches: usize,
     planes: usize,
     fresh: bool,
     live: &mut [u64],
     lives: &mut [u64],
 ) -> usize
-    requires { ⌜ (Tallied (now marks) (2 * end) planes (2 * from) (now live)) × (from ≤ end) × (end ≤ 1024) × (2 * end ≤ length (now marks))
-        × (1 ≤ planes) × (planes ≤ 4) × (4 * planes ≤ length (now live)) × (4 * ((end - from) * planes) ≤ length (now lives)) ⌝ }
+    requires { ⌜ (Tallied caches (now marks) (2 * end) planes (2 * from) (now live)) × (from ≤ end) × (end ≤ 1024) × (2 * end ≤ length (now marks))
+        × (caches ≤ 2) × (planes ≤ 4) × (4 * (planes * caches) ≤ length (now live)) × (4 * ((end - from) * (planes * caches)) ≤ length (now lives)) ⌝ }
     ensures { λ r. ⌜ (r ≤ end - from)
-        × ((f : ℕ → ℕ → ℕ) → Turning f (now (marks .entry)) (2 * end) → Shown f (2 * from) planes (now (live .entry))
-        → (fresh ≡ false → (s : ℕ) → s < 256 → f (2 * from) s ≡ 0)
-        → (Shown f (2 * end) planes (now (live .exit)))
-        × ((test : ℕ → Bool) → max (maxTo (atPoint f test) from) (mostCommon (now (lives .exit)) planes planes r test) ≡ maxTo (atPoint f test) end))
+        × ((f : ℕ → ℕ → ℕ) → Turning caches f (now (marks .entry)) (2 * end) → Shown caches f (2 * from) planes (now (live .entry))
+        → (fresh ≡ false → (s : ℕ) → s < setsOf caches → f (2 * from) s ≡ 0)
+        → (Shown caches f (2 * end) planes (now (live .exit)))
+        × ((test : ℕ → Bool) → max (maxTo (atPoint caches f test) from) (mostCommon caches (now (lives .exit)) planes planes r test)
+        ≡ maxTo (atPoint caches f test) end))
         × (length (now (live .exit)) ≡ length (now (live .entry))) × (length (now (lives .exit)) ≡ length (now (lives .entry))) ⌝ }
 {
     let mut m: usize = 0;
@@ -37,9 +40,9 @@ pub fn record_points(
         let x = marks[2 * p];
         let y = marks[2 * p + 1];
         let lost = loses(x, y) | is_last(p, end);
-        m = write_if(fresh & lost, lives, m, planes, live);
-        pass_mark(live, planes, x);
-        pass_mark(live, planes, y);
+        m = write_if(fresh & lost, lives, m, planes * caches, live);
+        pass_mark(live, caches, planes, x);
+        pass_mark(live, caches, planes, y);
         fresh = fresh & !lost | gains(x, y);
         p += 1;
     }

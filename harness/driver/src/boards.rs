@@ -17,12 +17,12 @@ pub fn words_of(bytes: &[u8]) -> Option<Vec<u32>> {
 
 /// A random board; the number picks bus, memory and refresh form in turn.
 pub fn random(r: &mut Rng, number: usize) -> Vec<u32> {
-    let (bus, memory, refresh) = (number as u32 % 5, number as u32 / 5 % 3, number as u32 / 15 % 3);
+    let (bus, memory, refresh) = (number as u32 % 5, number as u32 / 5 % 4, number as u32 / 20 % 3);
     let mut s = shape(r, RULES.level, memory, bus, refresh);
     if s.tasks > 24 && !r.chance(10) {
         s.tasks = 1 + s.tasks % 24;
     }
-    let mut w = match number / 45 % 4 {
+    let mut w = match number / 60 % 4 {
         0 | 1 => tuned_board(r, s, true),
         2 => tuned_board(r, s, false),
         _ => wild_board(r, s),
@@ -36,7 +36,22 @@ pub fn random(r: &mut Rng, number: usize) -> Vec<u32> {
 
 /// The board with a number of ways that it cannot have.
 pub fn without_ways(r: &mut Rng, w: &[u32]) -> Vec<u32> {
-    with_ways(w, if w[4] == 2 { r.pick(&NO_WAYS) } else { r.pick(&WAYS[1..]) })
+    with_ways(w, if w[4] >= 2 { r.pick(&NO_WAYS) } else { r.pick(&WAYS[1..]) })
+}
+
+/// The board in two caches, one of which has a number of sets that it cannot have; or with data sets and one cache, or none.
+pub fn without_sets(r: &mut Rng, w: &[u32]) -> Vec<u32> {
+    let memory = r.pick(&[0, 2, 3, 3]);
+    let [mut code, mut data] = [(); 2].map(|_| r.pick(&[1, 2, 255, 256]));
+    match memory {
+        0 => (code, data) = r.pick(&[(1, 0), (0, 1), (256, 256)]),
+        2 => {}
+        _ if r.chance(50) => code = r.pick(&NO_SETS),
+        _ => data = r.pick(&NO_SETS),
+    }
+    let mut v = w.to_vec();
+    (v[4], v[13], v[14]) = (memory, code, data);
+    v
 }
 
 /// The board with a number of refreshes put off that it cannot have.
@@ -45,20 +60,23 @@ pub fn without_putting_off(r: &mut Rng, w: &[u32]) -> Vec<u32> {
     with_put_off(w, p)
 }
 
-/// One trace a task, long ones over many blocks, in caches of few and of many sets, all of them of so many ways.
-pub fn long_traces(seed: u64, ways: u32) -> [Vec<u32>; 2] {
-    [16, 256].map(|sets| {
-        let mut w = trace_heavy_board(seed, 8, 2, 2, ways, 100);
-        w[13] = sets;
+/// One trace a task, long ones over many blocks, in one cache and in two, of few and of many sets, all of them of so many ways.
+pub fn long_traces(seed: u64, ways: u32) -> [Vec<u32>; 6] {
+    [(2, 16, 0), (2, 256, 0), (3, 16, 16), (3, 16, 256), (3, 256, 16), (3, 256, 256)].map(|(memory, code, data)| {
+        let mut w = trace_heavy_board(seed, 8, 2, memory, ways, 100);
+        (w[13], w[14]) = (code, data);
         w
     })
 }
+
+/// Numbers of sets at the ends of their range, and on both sides of a word of 64 bits.
+const SETS_AT_ENDS: [u32; 6] = [1, 2, 64, 65, 255, 256];
 
 /// Boards at the ends of every range.
 pub fn extreme(r: &mut Rng) -> Vec<u32> {
     let cores = r.pick(&[1u32, 2, 8]);
     let n = r.pick(&[1u32, 2, 8, 9, 16, 64]);
-    let (bus, memory, refresh) = (r.range(0, 4), r.range(0, 2), r.range(0, 2));
+    let (bus, memory, refresh) = (r.range(0, 4), r.range(0, 3), r.range(0, 2));
     let most = ((16_384 - 20 - 6 * n) / 2 / n).min(1024);
     let len = if r.chance(5) { most } else { r.range(1, most.min(30)) };
     let mut w = vec![0u32; 20];
@@ -76,7 +94,10 @@ pub fn extreme(r: &mut Rng) -> Vec<u32> {
     match memory {
         0 => {}
         1 => (w[13], w[14]) = r.pick(&[(0, 0), (32_768, 32_768), (32_767, 32_767)]),
-        _ => (w[13], w[15]) = (r.pick(&[1, 2, 64, 65, 255, 256]), r.pick(&WAYS)),
+        _ => (w[13], w[15]) = (r.pick(&SETS_AT_ENDS), r.pick(&WAYS)),
+    }
+    if memory == 3 {
+        w[14] = r.pick(&SETS_AT_ENDS);
     }
     for _ in 0..n {
         let t = r.pick(&[1, 2, MAX_PERIOD - 1, MAX_PERIOD]);

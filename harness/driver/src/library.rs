@@ -18,8 +18,8 @@ extern "C" {
     ) -> u32;
 }
 
-/// Words of one record of the figures table.
-pub const RECORD: usize = 13;
+/// Words of one record of the figures table: five, and eight for each of the two ECBs.
+pub const RECORD: usize = 21;
 
 /// A call's code, the two words of its answer, and the words on both sides of them.
 #[derive(Clone, Copy, Debug, PartialEq, Eq)]

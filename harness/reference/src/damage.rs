@@ -1,6 +1,6 @@
 //! Boards with faults: copies of a valid board with a byte too many or too few, and with words at and past the ends of their ranges.
 use crate::board::{MAX_PERIOD, MOST_PUT_OFF};
-use crate::generate::{with_put_off, with_word, Rng};
+use crate::generate::{last_memory, with_put_off, with_word, Rng};
 
 /// The same board with this form of refresh, and words 9 to 11 that fit it.
 fn with_refresh(w: &[u32], form: u32) -> Vec<u32> {
@@ -17,6 +17,21 @@ fn put_off_in_other_forms(w: &[u32]) -> Vec<(String, Vec<u32>)> {
     for form in (0..3).filter(|&form| form != w[8]) {
         for p in [0, 1, MOST_PUT_OFF, MOST_PUT_OFF + 1, u32::MAX] {
             out.push((format!("h8_{form}_h16_{p}"), with_put_off(&with_refresh(w, form), p)));
+        }
+    }
+    out
+}
+
+/// Words 13 and 14 at and past the ends of their ranges, with every kind of memory and with one that there is not.
+fn sets_in_every_memory(w: &[u32], level: u32) -> Vec<(String, Vec<u32>)> {
+    let mut out = vec![];
+    for memory in 0..=last_memory(level) + 1 {
+        for code in [0, 1, 256, 257] {
+            for data in [0, 1, 256, 257] {
+                let mut v = w.to_vec();
+                (v[4], v[13], v[14]) = (memory, code, data);
+                out.push((format!("h4_{memory}_h13_{code}_h14_{data}"), v));
+            }
         }
     }
     out
@@ -62,6 +77,11 @@ pub fn damaged(r: &mut Rng, w: &[u32], level: u32) -> Vec<(String, Vec<u8>)> {
     }
     if level >= 3 {
         for (name, v) in put_off_in_other_forms(w) {
+            put(name, &v);
+        }
+    }
+    if level >= 4 {
+        for (name, v) in sets_in_every_memory(w, level) {
             put(name, &v);
         }
     }

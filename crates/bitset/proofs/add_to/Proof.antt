@@ -9,7 +9,7 @@ use Rattle.bitset.proofs.add_to.Tie as tie
 returns : tie.Need-returns
 returns c =
     let a = c .before .args in
-    insert-words (now (a .set)) (c .before .pre .1) (c .slice-known .given) (a .s) (c .before .pre .0)
+    insert-words 8 (now (a .set)) (c .before .pre .1) (c .slice-known .given) (a .s) (c .before .pre .0)
 
 pub add-to-spec : {M : Type 1} → statement M
 add-to-spec =

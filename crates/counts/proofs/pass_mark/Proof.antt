@@ -2,24 +2,26 @@
 -- Assumes nothing.
 use Prim.Native.Nat.{ℕ, _+_, _-_, _*_, _≤_, _<_}
 use mathlib.Core.Path.{_≡_, refl, _∙_}
+use native.Mathlib.Nat.{mul-le-mul}
 use native.Mathlib.Omega.{arith}
 use denote.Ref.{now}
 use lib.ListN.{length, length-set}
 use borrow.Author.Needs.{needs}
+use Rattle.counts.proofs.Planes.{apart}
 use Rattle.counts.proofs.Carries.{Rippled, ripple-start, ripple-on, ripple-end}
 use Rattle.counts.proofs.pass_mark.Statement.{statement}
 use Rattle.counts.proofs.pass_mark.Tie as tie
 
 abbrev Inv : tie.InvT-loop
-Inv live₀ planes mark at turned carry₀ i₀ live carry i = (i ≤ planes) × (length live ≡ length live₀) × Rippled planes mark at live₀ i carry live
+Inv live₀ c planes mark at turned carry₀ i₀ live carry i = (i ≤ planes) × (length live ≡ length live₀) × Rippled c planes mark at live₀ i carry live
 
 abbrev μ : tie.MeasureT-loop
-μ live₀ planes mark at turned carry₀ i₀ live carry i = planes - i
+μ live₀ c planes mark at turned carry₀ i₀ live carry i = planes - i
 
 holds : tie.Need-loop-holds Inv μ
 holds c =
     let a = c .before .before .before .before .args in
-    (omega arith, refl, ripple-start (a .planes) (a .mark) (c .before .before .index .result) (now (a .live)) (c .carry-of .result) (c .before .before .index .ensures .0) (c .carry-of .ensures))
+    (omega arith, refl, ripple-start (a .caches) (a .planes) (a .mark) (c .before .before .index .result) (now (a .live)) (c .carry-of .result) (c .before .before .index .ensures .0) (c .carry-of .ensures))
 
 -- the word of the set in plane i
 module _ (c : tie.In-loop Inv μ) where
@@ -29,11 +31,18 @@ module _ (c : tie.In-loop Inv μ) where
   abbrev at : ℕ
   at = c .before .before .before .before .index .result
 
-  near : at < 4
+  near : at < 4 * top .args .caches
   near = omega (arith, c .before .before .before .before .index .ensures .0, top .pre .0)
 
-  there : 4 * c .before .loop .i + at < length (c .before .loop .live)
-  there = omega (arith, near, c .before .loop .inv .1, top .pre .2, c .loop-test .taken)
+  -- the plane lies within the planes
+  inside : c .before .loop .i * top .args .caches + top .args .caches ≤ top .args .planes * top .args .caches
+  inside = apart (c .before .loop .i) (top .args .planes) (top .args .caches) (c .loop-test .taken)
+
+  few : top .args .planes * top .args .caches ≤ 8
+  few = mul-le-mul {n₂ = 4} {m₂ = 2} (top .pre .1) (top .pre .3)
+
+  there : 4 * (c .before .loop .i * top .args .caches) + at < length (c .before .loop .live)
+  there = omega (arith, near, inside, c .before .loop .inv .1, top .pre .2)
 
 again : tie.Need-loop-again Inv μ
 again c =
@@ -42,7 +51,7 @@ again c =
     let a = top here .args in (
       omega (arith, here .loop-test .taken),
       length-set (loop .live) _ _ ∙ loop .inv .1,
-      ripple-on (a .planes) (a .mark) (at here) (now (a .live)) (loop .live) (loop .i) (loop .carry) (here .before .before .before .all-if .result)
+      ripple-on (a .caches) (a .planes) (a .mark) (at here) (now (a .live)) (loop .live) (loop .i) (loop .carry) (here .before .before .before .all-if .result)
           (here .loop-test .taken) (near here) (there here) (here .before .before .before .all-if .ensures) (loop .inv .2),
     )
 
@@ -51,13 +60,14 @@ returns c =
     let loop = c .before .loop in
     let start = c .before .before .before .before .before .before in
     let a = start .args in (
-      ripple-end (a .planes) (a .mark) (c .before .before .before .before .index .result) (now (a .live)) (loop .live) (loop .i) (loop .carry)
-          (omega (arith, loop .inv .0, c .loop-test .left)) (start .pre .3) (start .pre .4) (loop .inv .2),
+      ripple-end (a .caches) (a .planes) (a .mark) (c .before .before .before .before .index .result) (now (a .live)) (loop .live) (loop .i) (loop .carry)
+          (omega (arith, loop .inv .0, c .loop-test .left)) (start .pre .4) (start .pre .5) (loop .inv .2),
       loop .inv .1,
     )
 
 pub pass-mark-spec : {M : Type 1} → statement M
 pass-mark-spec =
     tie.close
-    (tie.spec Inv μ (λ c κs. search needs) (λ c κs. search needs) (λ c κs. search needs) holds (λ c. search needs) (λ c. search needs) (λ c. search needs)
-    (λ c. there (c .before)) (λ c. search needs) (λ c. there (c .before)) (λ c. search needs) (λ c. search needs) again (λ c. c .before .loop .inv .1) returns)
+    (tie.spec Inv μ (λ c κs. search needs) (λ c κs. search needs) (λ c κs. search needs) holds (λ c. omega (arith, few c, inside c))
+    (λ c. omega (arith, few c, inside c)) (λ c. omega (arith, few c, inside c, near c)) (λ c. omega (arith, few c, inside c)) (λ c. there (c .before))
+    (λ c. omega (arith, few (c .before), inside (c .before))) (λ c. there (c .before)) (λ c. search needs) (λ c. search needs) again (λ c. c .before .loop .inv .1) returns)

@@ -4,7 +4,8 @@ use mathlib.Core.Path.{_∙_}
 use borrow.Author.Needs.{needs}
 use denote.Ref.{now}
 use Rattle.figures.specs.Ready.{Ready}
-use Rattle.figures.specs.Figures.{figureOf}
+use Rattle.bitset.proofs.Buffers.{first-half, second-half}
+use Rattle.figures.specs.Figures.{evicting, figureOf}
 use Rattle.figures.proofs.figure_at.Statement.{statement}
 use Rattle.figures.proofs.figure_at.Tie as tie
 
@@ -15,15 +16,19 @@ ready s = s .pre .0 .ready (s .args .k) (s .pre .1)
 returns : tie.Need-returns
 unfolding figureOf
 returns c =
-    let start = c .before .before .before .before .before .before .before .before .before in
+    let read = c .before .before .before .before .before in
+    let start = read .before .before .before .before .before .before in
+    let a = start .args in
     let held = start .pre .0 .held in
+    let here = held .ecb (a .k) (start .pre .1) in
     λ i. record {
-      core = c .before .before .before .before .before .before .core .ensures .0 i;
-      period = c .before .before .before .before .before .period .ensures .0 i;
-      deadline = c .before .before .before .before .deadline .ensures .0 i;
-      pd = held .pd (start .args .k) (start .pre .1) i;
-      md = held .md (start .args .k) (start .pre .1) i;
-      ecb = (c .read .ensures ∙ held .ecb (start .args .k) (start .pre .1)) i;
+      core = read .before .before .before .core .ensures .0 i;
+      period = read .before .before .period .ensures .0 i;
+      deadline = read .before .deadline .ensures .0 i;
+      pd = held .pd (a .k) (start .pre .1) i;
+      md = held .md (a .k) (start .pre .1) i;
+      ecb = (c .before .before .four .ensures ∙ first-half (now (a .sets)) (a .k) (evicting (now (a .board)) (a .k)) here) i;
+      data_ecb = (c .four2 .ensures ∙ second-half (now (a .sets)) (a .k) (evicting (now (a .board)) (a .k)) here) i;
     }
 
 pub figure-at-spec : {M : Type 1} → statement M
@@ -33,13 +38,6 @@ figure-at-spec =
     (λ c κs. let r = ready (c .before .before) in (r .sound, r .task))
     (λ c κs. let r = ready (c .before .before .before) in (r .sound, r .task))
     (λ c κs. let r = ready (c .before .before .before .before) in (r .sound, r .task))
-    (λ c. search needs)
-    (λ c. search needs)
-    (λ c. search needs)
-    (λ c. search needs)
-    (λ c. search needs)
-    (λ c. search needs)
-    (λ c. search needs)
-    (λ c. search needs)
-    (λ c κs. search needs)
+    (λ c. search needs) (λ c. search needs) (λ c. search needs) (λ c. search needs) (λ c. search needs) (λ c. search needs) (λ c. search needs) (λ c. search needs)
+    (λ c. search needs) (λ c κs. search needs) (λ c. search needs) (λ c. search needs) (λ c κs. search needs)
     returns)

@@ -27,7 +27,7 @@ missed c =
     let a = touched .before .before .before .before .args in
     let last = touched .touch in
     let so = load-missed (a .base) (a .ways) (a .s) (a .block + 1) (a .e) (now (a .held)) (now (a .marks)) (λ z. omega arith) (last .result) (last .ensures .0) (c .if1 .taken) in (
-      so .0,
+      omega (arith, so .0),
       last .ensures .1 ∙ load-held (a .base) (a .ways) (a .s) (a .block + 1) (a .e) (now (a .held)) (now (a .marks)) (λ z. omega arith),
       so .1,
       omega arith,
@@ -46,7 +46,7 @@ hit c =
     let last = touched .touch in
     let first = set (now (a .marks)) (a .e) (4 * a .s + 2) in
     let so = load-hit (a .base) (a .ways) (a .s) (a .block + 1) (a .e) (now (a .held)) (now (a .marks)) (λ z. omega arith) (last .result) (last .ensures .0) (c .before .if1 .left) in (
-      so .0,
+      omega (arith, so .0),
       last .ensures .1 ∙ load-held (a .base) (a .ways) (a .s) (a .block + 1) (a .e) (now (a .held)) (now (a .marks)) (λ z. omega arith),
       ap (set first (last .result - 1)) (or-one (getD first (last .result - 1) 0)) ∙ so .1,
       omega arith,

@@ -3,7 +3,7 @@
 use borrow.Author.Needs.{needs}
 use mathlib.Core.Path.{_∙_}
 use Rattle.ranges.specs.Ranges.{headerRanges}
-use Rattle.ranges.proofs.Rows.{headerRow, setsRow, heldRow, headerSpare, avoids}
+use Rattle.ranges.proofs.Rows.{headerRow, headerSpare, avoids}
 use Rattle.ranges.proofs.header_ok.Statement.{statement}
 use Rattle.ranges.proofs.header_ok.Tie as tie
 
@@ -16,7 +16,7 @@ header-ok-spec =
     (λ c κs. search needs) (λ c κs. search needs) (λ c κs. search needs) (λ c κs. search needs) (λ c κs. search needs)
     (λ c κs. search needs) (λ c κs. search needs) (λ c κs. search needs) (λ c κs. search needs) (λ c κs. search needs)
     (λ c κs. search needs) (λ c κs. search needs) (λ c κs. search needs) (λ c κs. search needs) (λ c κs. search needs)
-    (λ c κs. search needs) (λ c κs. search needs)
+    (λ c κs. search needs)
     (λ c. c .within .ensures ∙ headerRow _ (c .before .match .keys1))
     (λ c. c .within2 .ensures ∙ headerRow _ (c .before .match .keys2))
     (λ c. c .within3 .ensures ∙ headerRow _ (c .before .match .keys3))
@@ -30,9 +30,8 @@ header-ok-spec =
     (λ c. c .range-if3 .ensures ∙ headerRow _ (c .before .match .keys11))
     (λ c. c .range-if4 .ensures ∙ headerRow _ (c .before .match .keys12))
     (λ c. headerRow _ (c .match .keys13))
-    (λ c. c .within9 .ensures ∙ setsRow _ (c .before .before .match .keys14) (c .before .if1 .taken))
-    (λ c. c .range-if5 .ensures ∙ heldRow _ (c .before .before .match .keys14) (c .before .if1 .left))
-    (λ c. c .range-if6 .ensures ∙ headerRow _ (c .before .match .keys15))
+    (λ c. c .sets-or-held .ensures ∙ headerRow _ (c .before .match .keys14))
+    (λ c. c .sets-or-held2 .ensures ∙ headerRow _ (c .before .match .keys15))
     (λ c. c .ways-if .ensures ∙ headerRow _ (c .before .match .keys16))
-    (λ c. c .range-if7 .ensures ∙ headerRow _ (c .before .match .keys17))
+    (λ c. c .range-if5 .ensures ∙ headerRow _ (c .before .match .keys17))
     (λ c. headerSpare _ _ (avoids _ 17 (c .match .rest))))

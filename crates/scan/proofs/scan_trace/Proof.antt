@@ -5,7 +5,6 @@ use mathlib.Core.Path.{ap, _∙_}
 use denote.Ref.{now}
 use native.Mathlib.Omega.{arith}
 use borrow.Author.Needs.{needs}
-use lib.Arith.{lt-of-le-ne}
 use lib.Dec.{eqb}
 use Rattle.folds.proofs.Numbers.{onlyIf-zero}
 use Rattle.board.specs.Layout.{memory, core}
@@ -22,7 +21,7 @@ asks : tie.Need-uncached-requires
 asks c κs =
     let start = c .before .before .before .before .before .before in
     let known = c .index .ensures .0 ∙ c .before .trace-length .ensures .0 in
-    (start .pre .0 .sound, starts-lies _ _ _ (start .pre .1) _ known, omega (arith, start .pre .0 .sound .memory))
+    (start .pre .0 .sound, starts-lies _ _ _ (start .pre .1) _ known, omega (arith, c .before .before .if1 .left, c .before .before .before .memory .ensures .0))
 
 plain : tie.Need-returns-2
 unfolding traceOf
@@ -34,8 +33,7 @@ plain c =
     let b = now (a .board) in
     let t : Trace = traceOf b (a .at .trace) in
     let same = starts-trace _ _ _ (start .pre .1) _ (read .index .ensures .0 ∙ read .before .trace-length .ensures .0) in
-    let rest = read .before .before in
-    let uncached : memory b < 2 = lt-of-le-ne (start .pre .0 .sound .memory) (λ e. rest .match .rest .1 (rest .before .memory .ensures .0 ∙ e)) in
+    let uncached : memory b < 2 = omega (arith, read .before .before .if1 .left, read .before .before .before .memory .ensures .0) in
     record {
       pd = c .uncached .ensures .1 ∙ ap tracePD same;
       md = c .uncached .ensures .0 ∙ ap traceMD same;
@@ -45,7 +43,13 @@ plain c =
       later = λ j. omega (arith, start .pre .3 j);
     }
 
+cached : tie.Need-under-cache-requires
+cached c κs =
+    let read = c .before .before .before .before .before in
+    let start = read .before .before .before .before in
+    (start .pre .0, start .pre .1, start .pre .2, start .pre .3, start .pre .4, omega (arith, read .if1 .taken, read .before .memory .ensures .0))
+
 pub scan-trace-spec : {M : Type 1} → statement M
 scan-trace-spec =
     tie.close
-    (tie.spec (λ c κs. search needs) (λ c κs. search needs) (λ c κs. search needs) (λ c κs. search needs) asks (λ c. search needs) (λ c. search needs) plain)
+    (tie.spec (λ c κs. search needs) cached (λ c. search needs) (λ c. search needs) (λ c κs. search needs) (λ c κs. search needs) asks plain)

@@ -20,8 +20,9 @@ use Rattle.trace.specs.Traces.{Trace, traceOf, tracePD, traceMD, evicts, mostUs
 use Rattle.trace.specs.Places.{traceAt, Lies}
 use Rattle.trace.proofs.Starts.{starts-lies, starts-trace}
 use Rattle.figures.specs.Overhead.{evictedBy}
-use Rattle.scan.specs.Levels.{Levels}
-use Rattle.scan.proofs.Marked.{marked-turning, marked-levels, before, place-low, most-useful}
+use Rattle.counts.specs.Planes.{setsOf}
+use Rattle.scan.specs.Levels.{cachesOf, Levels}
+use Rattle.scan.proofs.Marked.{marked-turning, marked-levels, before, place-few, most-useful}
 use Rattle.scan.proofs.under_cache.Statement.{statement}
 use Rattle.scan.proofs.under_cache.Tie as tie
 
@@ -48,7 +49,7 @@ base-fits c = omega (arith, start c .pre .1 .trace, start c .pre .0 .sound .trac
 marks-length : (c : tie.After-mark-trace-arg3) → length (now (start (c .before .before .before .before) .args .marks)) ≡ 2048
 marks-length c = search needs
 
-held-length : (c : tie.After-mark-trace-arg3) → length (now (start (c .before .before .before .before) .args .held)) ≡ 2048
+held-length : (c : tie.After-mark-trace-arg3) → length (now (start (c .before .before .before .before) .args .held)) ≡ 4096
 held-length c = search needs
 
 asks : tie.Need-mark-trace-requires
@@ -70,8 +71,11 @@ module _ (c : tie.After-mark-trace) where
   abbrev read : tie.After-index
   read = c .before .before .before .before .before
 
-  low : (m : ℕ) → placeOf (now (start read .args .board)) m < 256
-  low = let sets = start read .pre .0 .sound .sets (start read .pre .5) in place-low (trace read) (start read .pre .5) (sets .0) (sets .1)
+  abbrev caches : ℕ
+  caches = cachesOf (now (start read .args .board))
+
+  low : (m : ℕ) → placeOf (now (start read .args .board)) m < setsOf caches
+  low = place-few (trace read) (start read .pre .0 .sound) (start read .pre .5)
 
   abbrev marks : List ℕ
   marks = c .mark-trace .last .1 .1 .1 .1 .1 .1 .0
@@ -79,8 +83,8 @@ module _ (c : tie.After-mark-trace) where
   marks-room : length marks ≡ 2048
   marks-room = c .mark-trace .kept .1 .1 .1 .1 .1 .1 .0 ∙ marks-length (c .before)
 
-  levels : Levels marks (2 * read .index .result) (ways (now (start read .args .board)))
-  levels = marked-levels _ _ _ low marks _ (c .mark-trace .ensures .1)
+  levels : Levels caches marks (2 * read .index .result) (ways (now (start read .args .board)))
+  levels = marked-levels _ _ _ _ low marks _ (c .mark-trace .ensures .1)
 
 lives-length : (c : tie.After-raise-points-arg4) → length (now (start (read (c .before .before .before .before .before .before .before)) .args .lives)) ≡ 2048
 lives-length c = search needs
@@ -102,7 +106,7 @@ four : (c : tie.After-mark-trace)
     → let s = start (read c) in
     let t = traceOf (now (s .args .board)) (s .args .at .trace) in
     (c .before .before .before .before .pd .result ≡ tracePD t) × (c .mark-trace .result ≡ traceMD t)
-    × (c .mark-trace .last .1 .1 .1 .1 .1 .0 ≡ wordsOf (λ s'. member (now (s .args .ecb)) s' || evicts t s'))
+    × (c .mark-trace .last .1 .1 .1 .1 .1 .0 ≡ wordsOf 8 (λ s'. member (now (s .args .ecb)) s' || evicts t s'))
     × AllEarlier (baseOf (s .args .at .trace + 1)) (c .mark-trace .last .1 .1 .1 .1 .0)
 four c =
     let s = start (read c) in
@@ -110,7 +114,7 @@ four c =
     let next : 65536 * s .args .at .trace + 65536 ≡ baseOf (s .args .at .trace + 1) = omega arith in (
       c .before .before .before .before .pd .ensures ∙ ap tracePD t,
       c .mark-trace .ensures .0 ∙ ap traceMD t,
-      c .mark-trace .ensures .2 ∙ ap (λ (u : Trace). wordsOf (λ s'. member (now (s .args .ecb)) s' || evicts u s')) t,
+      c .mark-trace .ensures .2 ∙ ap (λ (u : Trace). wordsOf 8 (λ s'. member (now (s .args .ecb)) s' || evicts u s')) t,
       subst (λ (base : ℕ). AllEarlier base (c .mark-trace .last .1 .1 .1 .1 .0)) next (c .mark-trace .ensures .3),
     )
 
@@ -126,10 +130,10 @@ returns c =
       pd = all .0;
       md = all .1;
       joined = all .2;
-      higher = λ wanted. c .raise-points .ensures (before t (s .pre .5)) (marked-turning _ _ _ (low found) (marks found) _ (found .mark-trace .ensures .1)) (λ s' h. useful-start _ _ _ _ s')
+      higher = λ wanted. c .raise-points .ensures (before t (s .pre .0 .sound) (s .pre .5)) (marked-turning _ _ _ _ (low found) (marks found) _ (found .mark-trace .ensures .1)) (λ s' h. useful-start _ _ _ _ s')
           ∙ fillTo-cong _ _ (now (a .row)) (a .i)
           (λ j h. ap (λ (x : ℕ). max (getD (now (a .row)) j 0) (onlyIf (eqb (core b (a .i)) (core b j)) x))
-          (most-useful t (s .pre .5) (evictedBy b j) ∙ ap (λ (u : Trace). mostUseful u (evictedBy b j)) (the-trace (read found))));
+          (most-useful t (s .pre .0 .sound) (s .pre .5) (evictedBy b j) ∙ ap (λ (u : Trace). mostUseful u (evictedBy b j)) (the-trace (read found))));
       later = all .3;
     }
 

@@ -26,8 +26,8 @@ returns c =
     let a = start .args in
     let b = now (a .board) in
     let here = x .ensures .0 ∙ core .ensures .0 in
-    let known : joined .result ≡ wordsOf (evictedBy b (a .i)) =
-    joined .ensures ∙ ap (λ w. wordsOf (λ s. member w s || member (a .ecb) s)) (read .ensures)
+    let known : joined .result ≡ wordsOf 8 (evictedBy b (a .i)) =
+    joined .ensures ∙ ap (λ w. wordsOf 8 (λ s. member w s || member (a .ecb) s)) (read .ensures)
     ∙ joined-core b (a .i) (x .result) (now (a .cores)) (a .ecb) (start .pre .3) (omega arith) here (start .pre .1) in (
       λ h l. records-next (a .i) (c .write3 .ensures) (evicting b) (start .pre .1) h (λ n. start .pre .2 h (omega (arith, n))),
       cores-next b (a .i) (x .result) (now (a .cores)) _ (joined .result) here known (write .ensures) (start .pre .3),

@@ -42,7 +42,7 @@ holds c =
       λ j l. absurd (not-suc-le-zero l),
       held-none b _ _ _,
       (λ wanted. (row-none b, λ i j h l. absurd (not-suc-le-zero h))),
-      λ j. omega (arith, getD-none {A = ℕ} 2048 j 0),
+      λ j. omega (arith, getD-none {A = ℕ} 4096 j 0),
     )
 
 -- n is the number of tasks

@@ -29,8 +29,8 @@ holds c =
     let a = start .args in
     (search needs, start .pre .1, gathered-none (now (a .board)) (a .i) (a .rows) (now (a .row)) _ (c .empty .ensures), start .pre .3)
 
-ecb-length : (c : tie.At-loop Inv μ) → length (c .loop .ecb) ≡ 4
-ecb-length c = ap length (c .loop .inv .2 .joined) ∙ wordsOf-length _
+ecb-length : (c : tie.At-loop Inv μ) → length (c .loop .ecb) ≡ 8
+ecb-length c = ap length (c .loop .inv .2 .joined) ∙ wordsOf-length 8 _
 
 starts : tie.Need-scan-trace-requires Inv μ
 starts c κs =

@@ -54,7 +54,7 @@ use denote.Exit.{yes}
 use Rattle.folds.specs.Folds.{fillTo}
 use Rattle.folds.proofs.Lists.{fillTo-none, fillTo-next, length-fillTo}
 use Rattle.figures.specs.Figures.{figureOf}
-use Rattle.figures.specs.Survey.{Fillable}
+use Rattle.figures.specs.Survey.{ecbWords, Fillable}
 use Rattle.figures.specs.declared.Figure.{Figure}
 use Rattle.table.proofs.Bytes.{bytes-below}
 use Rattle.figures.proofs.Figure as T
@@ -76,14 +76,14 @@ stayed = (
     stay-none (λ _. usize) yes,
     (
       stay-none-slice (1 ∷ []) tt (plain (λ _. u32)) yes,
-      (stay-none-ref (2 ∷ []) tt (ArrayOf (plain (λ _. u64)) (λ _. tt) 256) yes, (stay-slice (3 ∷ []) tt (plain (λ _. T.the-row)), tt)),
+      (stay-none-ref (2 ∷ []) tt (ArrayOf (plain (λ _. u64)) (λ _. tt) ecbWords) yes, (stay-slice (3 ∷ []) tt (plain (λ _. T.the-row)), tt)),
     ),
   ),
 )
 
 -- the type of the sets
 abbrev R : RattleType
-R = Array u64 256
+R = Array u64 ecbWords
 
 -- the contract that the proof cites
 abbrev FigureAt : {M : Type 1} (𝓤 : URA M) (H : Heap 𝓤) (A : Atoms 𝓤) (at-mem : Memory → SProp 𝓤) (run : Routine → Fun 𝓤) → Contract 𝓤
@@ -201,7 +201,7 @@ module _ {M : Type 1} (𝓤 : URA M) (H : Heap 𝓤) (A : Atoms 𝓤) (W : Given
     wordsTy = sliceTy (tyRef (named 1) imm (tyInt w32))
 
     abbrev setsTy : Ty
-    setsTy = tyRef (named 2) imm (tyArray (tyInt w64) 256)
+    setsTy = tyRef (named 2) imm (tyArray (tyInt w64) ecbWords)
 
     abbrev tableTy : Ty
     tableTy = sliceTy (tyRef (named 3) mut (pointee (T.the-row .written)))
@@ -340,7 +340,7 @@ module _ {M : Type 1} (𝓤 : URA M) (H : Heap 𝓤) (A : Atoms 𝓤) (W : Given
       (
         goes-none-slice 𝓤 H A W 4 (1 ∷ []) tt (plain (λ _. u32)) yes,
         (
-          goes-none-ref 𝓤 H A W 4 (2 ∷ []) tt (ArrayOf (plain (λ _. u64)) (λ _. tt) 256) yes,
+          goes-none-ref 𝓤 H A W 4 (2 ∷ []) tt (ArrayOf (plain (λ _. u64)) (λ _. tt) ecbWords) yes,
           (goes-slice 𝓤 H A W 4 3 tt (plain (λ _. T.the-row)), tt),
         ),
       ),

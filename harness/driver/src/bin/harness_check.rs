@@ -64,8 +64,10 @@ struct Tally {
     /// Boards on which Analyse and an order have an answer with passes, and those of them on which the order needs fewer.
     settled_twice: usize,
     fewer_passes: usize,
-    /// Boards with a cache that are not refused, by their word 15.
+    /// Boards with a cache that are not refused, by their word 15; and those with two caches, with those of them that have another answer or other
+    /// times than in one cache, the code's.
     ways: BTreeMap<u32, usize>,
+    two_caches: BTreeMap<u32, [usize; 2]>,
     /// Boards with distributed refresh that are not refused, by their word 16, and those of them with another answer or other times than with 0.
     put_off: BTreeMap<u32, [usize; 2]>,
 }
@@ -83,15 +85,21 @@ impl Tally {
     /// Counts a board that is not refused by its ways, and by the refreshes that it puts off.
     fn count(&mut self, w: &[u32]) {
         let Ok(b) = check_board(w, RULES) else { return };
-        if b.memory() == 2 {
-            *self.ways.entry(w[15]).or_default() += 1;
+        match b.memory() {
+            2 => *self.ways.entry(w[15]).or_default() += 1,
+            3 => count_beside(self.two_caches.entry(w[15]).or_default(), w, &with_one_cache(w)),
+            _ => {}
         }
         if b.refresh() == 2 {
-            let [boards, changed] = self.put_off.entry(w[16]).or_default();
-            *boards += 1;
-            *changed += (w[16] != 0 && of_fast(w) != of_fast(&with_put_off(w, 0))) as usize;
+            count_beside(self.put_off.entry(w[16]).or_default(), w, &with_put_off(w, 0));
         }
     }
+}
+
+/// Counts a board, and whether it has another answer or other times than the plainer one.
+fn count_beside([boards, changed]: &mut [usize; 2], w: &[u32], plainer: &[u32]) {
+    *boards += 1;
+    *changed += (of_fast(w) != of_fast(plainer)) as usize;
 }
 
 /// What `fast` answers with room for 64 tasks, and the times that it leaves.
@@ -132,7 +140,7 @@ fn kind(a: Answer) -> String {
 
 fn record(f: &Figure) -> Vec<u32> {
     let mut v = vec![f.core, f.period, f.deadline, f.pd, f.md];
-    for w in f.ecb {
+    for w in f.ecb.into_iter().chain(f.ecb_data) {
         v.extend([w as u32, (w >> 32) as u32]);
     }
     v
@@ -373,7 +381,7 @@ fn main() {
             try_board(&mut t, &mut r, &program, &w);
         }
         if k % 40 == 0 {
-            for w in [without_ways(&mut r, &w), without_putting_off(&mut r, &w)] {
+            for w in [without_ways(&mut r, &w), without_sets(&mut r, &w), without_putting_off(&mut r, &w)] {
                 try_board(&mut t, &mut r, &program, &w);
             }
         }
@@ -397,9 +405,14 @@ fn main() {
         }
         for ways in WAYS {
             try_board(&mut t, &mut r, &program, &largest_edge_in_ways(seed + 7, bus, 8, ways));
+            try_board(&mut t, &mut r, &program, &largest_edge_in_two_caches(seed + 7, bus, 8, ways));
         }
         try_board(&mut t, &mut r, &program, &largest_edge_in_ways(seed + 8, bus, 1, WAYS[bus as usize]));
+        try_board(&mut t, &mut r, &program, &largest_edge_in_two_caches(seed + 8, bus, 1, WAYS[bus as usize]));
         try_board(&mut t, &mut r, &program, &largest_edge_put_off(seed + 9, 2, bus, 8, MOST_PUT_OFF));
+    }
+    for ways in WAYS {
+        try_board(&mut t, &mut r, &program, &most_useful_board(ways));
     }
     for w in WAYS.iter().flat_map(|&ways| long_traces(seed, ways)) {
         try_board(&mut t, &mut r, &program, &w);
@@ -417,8 +430,8 @@ fn main() {
     for end in [65_532, 65_535, 65_536, 65_537, 65_538, 65_540] {
         try_page(&mut t, &program, &over[..end]);
     }
-    // K1, a scratchpad, and a cache of eight ways
-    let good = [k1(), random(&mut r, 7), with_ways(&random(&mut r, 10), 8)];
+    // K1, a scratchpad, a cache of eight ways, and two
+    let good = [k1(), random(&mut r, 7), with_ways(&random(&mut r, 10), 8), with_ways(&random(&mut r, 15), 8)];
     for input in good.iter().map(|w| bytes_of(w)) {
         for end in 0..=input.len().min(4_000) {
             try_page(&mut t, &program, &input[..end]);
@@ -427,7 +440,8 @@ fn main() {
     for (call, answers) in &t.answers {
         println!("answers of {call}: {answers:?}");
     }
-    println!("boards with a cache that are not refused, by word 15: {:?}", t.ways);
+    println!("boards with one cache that are not refused, by word 15: {:?}", t.ways);
+    println!("boards with two that are not refused, by word 15, and those with another answer or other times than in one: {:?}", t.two_caches);
     println!("boards with distributed refresh that are not refused, by word 16, and those with another answer or other times than with 0: {:?}", t.put_off);
     println!("in order beside analyse: {} boards not spent, {} of them with fewer passes", t.settled_twice, t.fewer_passes);
     println!("{} boards, {} calls, {} pages, {} differences", t.boards, t.calls, t.pages, t.differences);

@@ -13,16 +13,16 @@ use Rattle.counts.proofs.needed.needed.Statement.{statement}
 use Rattle.counts.proofs.needed.needed.Tie as tie
 
 abbrev Inv : tie.InvT-loop
-Inv lives planes m n₀ n = (1 ≤ n) × (n ≤ planes) × ((test : ℕ → Bool) → mostCommon lives planes n m test ≡ mostCommon lives planes planes m test)
+Inv lives c planes m n₀ n = (1 ≤ n) × (n ≤ planes) × ((test : ℕ → Bool) → mostCommon c lives planes n m test ≡ mostCommon c lives planes planes m test)
 
 abbrev μ : tie.MeasureT-loop
-μ lives planes m n₀ n = n
+μ lives c planes m n₀ n = n
 
 asks : tie.Need-none-in-requires Inv μ
 asks c κs =
     let at = c .before in
     let top = at .before .before in
-    (omega (arith, at .loop .inv .0, at .loop .inv .1), top .pre .1, top .pre .2, top .pre .3)
+    (top .pre .0, top .pre .1, omega (arith, at .loop .inv .0, at .loop .inv .1), top .pre .3, top .pre .4, top .pre .5)
 
 again : tie.Need-loop-again Inv μ
 again c =
@@ -33,12 +33,12 @@ again c =
     let none = c .before .none-in .ensures (not-false _ (c .if1 .left)) in (
       omega arith,
       omega (arith, at .loop .inv .1),
-      λ test. mostCommon-empty (now (a .lives)) (a .planes) n test (a .m) none ∙ ap (λ (k : ℕ). mostCommon (now (a .lives)) (a .planes) k (a .m) test) next
+      λ test. mostCommon-empty (a .caches) (now (a .lives)) (a .planes) n test (a .m) none ∙ ap (λ (k : ℕ). mostCommon (a .caches) (now (a .lives)) (a .planes) k (a .m) test) next
           ∙ at .loop .inv .2 test,
     )
 
 pub needed-spec : {M : Type 1} → statement M
 needed-spec =
     tie.close
-    (tie.spec Inv μ (λ c. (c .before .pre .0, omega arith, λ test. refl)) (λ c. search needs) asks (λ c. c .before .before .before .loop .inv) (λ c. search needs)
+    (tie.spec Inv μ (λ c. (c .before .pre .2, omega arith, λ test. refl)) (λ c. search needs) asks (λ c. c .before .before .before .loop .inv) (λ c. search needs)
     (λ c. search needs) again (λ c. c .before .loop .inv))

@@ -1,4 +1,4 @@
--- `counts::records::store` meets its contract. The invariant: the planes passed are stored.
+-- `counts::records::store` meets its contract. The invariant: the words passed are stored.
 -- Assumes nothing.
 use Prim.Native.Nat.{_-_, _*_, _≤_}
 use native.Mathlib.Omega.{arith}
@@ -7,17 +7,17 @@ use lib.ListN.{getD}
 use borrow.Author.Needs.{needs}
 use Rattle.folds.specs.Stored.{Stored}
 use Rattle.folds.proofs.Stored.{stored-none, stored-all}
-use Rattle.counts.proofs.Buffers.{plane-stored}
+use Rattle.counts.proofs.Buffers.{quad-stored}
 use Rattle.counts.proofs.records.store.Statement.{statement}
 use Rattle.counts.proofs.records.store.Tie as tie
 
 abbrev Inv : tie.InvT-loop
-Inv lives₀ from planes live i₀ lives i = (i ≤ planes) × Stored (λ k. getD live k 0) (4 * from) (4 * i) lives₀ lives
+Inv lives₀ from quads live i₀ lives i = (i ≤ quads) × Stored (λ k. getD live k 0) (4 * from) (4 * i) lives₀ lives
 
 abbrev μ : tie.MeasureT-loop
-μ lives₀ from planes live i₀ lives i = planes - i
+μ lives₀ from quads live i₀ lives i = quads - i
 
-room : tie.Need-write-requires Inv μ
+room : tie.Need-write-four-requires Inv μ
 room c κs =
     let at = c .before .before .before in
     omega (arith, at .loop .inv .1 .size, at .before .before .before .pre .0, c .before .before .loop-test .taken)
@@ -26,7 +26,7 @@ again : tie.Need-loop-again Inv μ
 again c =
     let at = c .before .before .before .before .before .before in
     let a = at .before .before .before .args in
-    (search needs, plane-stored (now (a .live)) (c .before .before .before .read .result) (a .from) (at .loop .i) _ _ _ (at .loop .inv .1) (c .before .before .before .read .ensures) (c .before .before .write .ensures))
+    (search needs, quad-stored (now (a .live)) (c .before .before .before .four .result) (a .from) (at .loop .i) _ _ _ (at .loop .inv .1) (c .before .before .before .four .ensures) (c .before .before .write-four .ensures))
 
 returns : tie.Need-returns Inv μ
 returns c = let loop = c .before .loop in stored-all _ _ _ (loop .inv .1) (omega (arith, loop .inv .0)) (omega (arith, c .loop-test .left))

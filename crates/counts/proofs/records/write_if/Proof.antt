@@ -12,7 +12,7 @@ use Rattle.counts.proofs.records.write_if.Tie as tie
 place : tie.Need-mul-store
 place c =
     let top = c .before .before .before .before in
-    record { fits = omega (arith, small-product (top .args .q) (top .args .planes) (top .pre .2) (top .pre .3)) }
+    record { fits = omega (arith, small-product (top .args .q) (top .args .quads) (top .pre .2) (top .pre .3)) }
 
 written : tie.Need-returns
 written c = rw (c .before .before .before .before .if1 .taken) (refl, c .before .before .store .ensures)

@@ -21,7 +21,7 @@ elsewhere : tie.Need-returns
 elsewhere c =
     let a = c .before .before .before .before .before .args in
     let b = now (a .board) in
-    ap (λ (t : Bool). onlyIf t (mostCommon (now (a .lives)) (a .planes) (a .used) (a .m) (evictedBy b (a .j)))) (sym (ne-eqb (core b (a .i)) (core b (a .j)) (λ e. omega arith)))
+    ap (λ (t : Bool). onlyIf t (mostCommon (a .caches) (now (a .lives)) (a .planes) (a .used) (a .m) (evictedBy b (a .j)))) (sym (ne-eqb (core b (a .i)) (core b (a .j)) (λ e. omega arith)))
 
 here : tie.Need-returns-2
 here c =
@@ -29,9 +29,9 @@ here c =
     let a = start .args in
     let b = now (a .board) in
     c .most-common .ensures .0
-    ∙ mostCommon-cong (now (a .lives)) (a .planes) (a .used) (a .m) _ (evictedBy b (a .j))
-    (λ s h. ap (λ (w : List _). member w s) (c .before .read .ensures ∙ start .pre .2 (a .j) (start .pre .1)) ∙ member-wordsOf (evictedBy b (a .j)) s h)
-    ∙ ap (λ (t : Bool). onlyIf t (mostCommon (now (a .lives)) (a .planes) (a .used) (a .m) (evictedBy b (a .j)))) (sym (eq-eqb (core b (a .i)) (core b (a .j)) (omega arith)))
+    ∙ mostCommon-cong (a .caches) (now (a .lives)) (a .planes) (a .used) (a .m) _ (evictedBy b (a .j))
+    (λ s h. ap (λ (w : List _). member w s) (c .before .read .ensures ∙ start .pre .2 (a .j) (start .pre .1)) ∙ member-wordsOf 8 (evictedBy b (a .j)) s (omega (arith, h, start .pre .3 .1)))
+    ∙ ap (λ (t : Bool). onlyIf t (mostCommon (a .caches) (now (a .lives)) (a .planes) (a .used) (a .m) (evictedBy b (a .j)))) (sym (eq-eqb (core b (a .i)) (core b (a .j)) (omega arith)))
 
 pub common-spec : {M : Type 1} → statement M
 common-spec = tie.close (tie.spec (λ c κs. search needs) (λ c κs. search needs) elsewhere (λ c κs. search needs) (λ c κs. search needs) here)

@@ -20,17 +20,17 @@ use Rattle.figures.proofs.row.raise.Statement.{statement}
 use Rattle.figures.proofs.row.raise.Tie as tie
 
 -- what the records add to task j's overhead
-abbrev commonWith : List ℕ → ℕ → List ℕ → ℕ → ℕ → ℕ → ℕ → ℕ
-commonWith b i lives planes used m = onCoreOf b i (λ j. mostCommon lives planes used m (evictedBy b j))
+abbrev commonWith : List ℕ → ℕ → ℕ → List ℕ → ℕ → ℕ → ℕ → ℕ → ℕ
+commonWith b i c lives planes used m = onCoreOf b i (λ j. mostCommon c lives planes used m (evictedBy b j))
 
 abbrev Inv : tie.InvT-loop
-Inv b i evicted lives planes m row₀ used j₀ row j = (j ≤ i) × (row ≡ raised (commonWith b i lives planes used m) j row₀)
+Inv b i evicted lives c planes m row₀ used j₀ row j = (j ≤ i) × (row ≡ raised (commonWith b i c lives planes used m) j row₀)
 
 abbrev μ : tie.MeasureT-loop
-μ b i evicted lives planes m row₀ used j₀ row j = i - j
+μ b i evicted lives c planes m row₀ used j₀ row j = i - j
 
 none : tie.Need-returns Inv μ
-none c = let a = c .before .before .before .args in common-none (now (a .board)) (a .i) (now (a .lives)) (a .planes) (a .m) (now (a .row)) (omega arith)
+none c = let a = c .before .before .before .args in common-none (now (a .board)) (a .i) (a .caches) (now (a .lives)) (a .planes) (a .m) (now (a .row)) (omega arith)
 
 holds : tie.Need-loop-holds Inv μ
 holds c = (search needs, sym (fillTo-none _ _))
@@ -53,7 +53,7 @@ again c =
     let a = at .before .before .before .before .before .args in
     let used = at .before .needed .result in (
       omega (arith, turn .loop-test .taken),
-      raised-turn (commonWith (now (a .board)) (a .i) (now (a .lives)) (a .planes) used (a .m)) (now (a .row)) (at .loop .j) (at .loop .inv .1) (c .before .common .ensures) (c .larger .ensures),
+      raised-turn (commonWith (now (a .board)) (a .i) (a .caches) (now (a .lives)) (a .planes) used (a .m)) (now (a .row)) (at .loop .j) (at .loop .inv .1) (c .before .common .ensures) (c .larger .ensures),
     )
 
 returns : tie.Need-returns-2 Inv μ
@@ -62,7 +62,7 @@ returns c =
     let a = at .before .before .before .before .before .args in
     let b = now (a .board) in
     let used = at .before .needed in
-    at-end (λ j. raised (commonWith b (a .i) (now (a .lives)) (a .planes) (used .result) (a .m)) j (now (a .row))) (at .loop .inv .1) (at .loop .inv .0)
+    at-end (λ j. raised (commonWith b (a .i) (a .caches) (now (a .lives)) (a .planes) (used .result) (a .m)) j (now (a .row))) (at .loop .inv .1) (at .loop .inv .0)
     (omega (arith, c .loop-test .left))
     ∙ fillTo-cong _ _ (now (a .row)) (a .i)
     (λ j h. ap (λ (x : ℕ). max (getD (now (a .row)) j 0) (onlyIf (eqb (core b (a .i)) (core b j)) x)) (used .ensures .2 (evictedBy b j)))

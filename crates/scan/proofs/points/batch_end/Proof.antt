@@ -11,17 +11,17 @@ use Rattle.scan.proofs.points.batch_end.Tie as tie
 last : tie.Need-returns
 last c =
     let a = c .before .args in
-    (c .before .pre .2, omega arith, batch-fits (a .planes) (a .len - a .p) (omega (arith, c .if1 .taken)))
+    (c .before .pre .1, omega arith, batch-fits (a .quads) (a .len - a .p) (omega (arith, c .if1 .taken)))
 
 full : tie.Need-returns-2
 full c =
     let a = c .before .args in
-    let some = batch-some (a .planes) (c .before .pre .0) (c .before .pre .1) in
-    let points = 512 / a .planes in
+    let some = batch-some (a .quads) (c .before .pre .0 .0) (c .before .pre .0 .1) in
+    let points = 512 / a .quads in
     let same : a .p + points - a .p ≡ points = omega arith in (
       omega (arith, some),
-      omega (arith, c .if1 .left, c .before .pre .2),
-      batch-fits (a .planes) (a .p + points - a .p) (omega (arith, same)),
+      omega (arith, c .if1 .left, c .before .pre .1),
+      batch-fits (a .quads) (a .p + points - a .p) (omega (arith, same)),
     )
 
 pub batch-end-spec : {M : Type 1} → statement M

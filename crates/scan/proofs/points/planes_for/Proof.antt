@@ -7,5 +7,5 @@ use Rattle.scan.proofs.points.planes_for.Tie as tie
 pub planes-for-spec : {M : Type 1} → statement M
 planes-for-spec =
     tie.close
-    (tie.spec (λ c. (omega arith, omega arith, omega arith)) (λ c. (omega arith, omega arith, omega arith)) (λ c. (omega arith, omega arith, omega arith))
-    (λ c. (omega arith, omega arith, omega arith)))
+    (tie.spec (λ c. (omega arith, (omega arith, omega arith))) (λ c. (omega arith, (omega arith, omega arith))) (λ c. (omega arith, (omega arith, omega arith)))
+    (λ c. (omega arith, (omega arith, omega arith))))
