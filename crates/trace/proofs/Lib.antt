@@ -13,4 +13,5 @@ pub mod Above
 pub mod Instructions
 pub mod Reciprocal
 pub mod OneWay
+pub mod TwoCaches
 pub mod Useful
