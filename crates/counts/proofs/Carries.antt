@@ -1,7 +1,7 @@
 -- What a mark does to the numbers, plane by plane: the carry, or the borrow, of a set goes into its bit by exclusive or, and on where the bit hands it on.
 -- Assumes nothing.
 use Prim.Native.Nat.{ℕ, _+_, _*_, _/_, _%_, _^_, _≤_, _<_}
-use mathlib.Core.Bool.{Bool, true, false, not, _&&_, _||_, xor}
+use mathlib.Core.Bool.{Bool, true, false, not, _&&_, _||_, xor, and-false}
 use mathlib.Core.List.{List}
 use mathlib.Core.Path.{_≡_, refl, sym, ap, ap₂, subst, _∙_}
 use native.Mathlib.Decide.{ℕ-discrete}
@@ -17,9 +17,9 @@ use Rattle.folds.specs.Folds.{onlyIf}
 use Rattle.folds.proofs.Numbers.{and-both}
 use Rattle.folds.proofs.Folds.{sumTo-but}
 use Rattle.bitset.specs.Bits.{bit, wordOf}
-use Rattle.bitset.proofs.Words.{bit-and, bit-xor, bit-wordOf}
+use Rattle.bitset.proofs.Words.{bit-none, bit-and, bit-xor, bit-wordOf}
 use Rattle.counts.specs.Planes.{setsOf, inPlane, countOf, largest}
-use Rattle.counts.specs.Turns.{Passed}
+use Rattle.counts.specs.Turns.{adds, takes, Passed}
 use Rattle.counts.proofs.Planes.{same-plane, weight, count-sum, count-below, largest-power}
 
 -- ---- one number: it was `old` and is `new`, with a carry in of `first` and one that still stands, of weight k, of `rest`
@@ -45,11 +45,16 @@ moved-on false first true false k k' old new new' w e m = omega arith
 moved-on false first false true k k' old new new' w e m = omega arith
 moved-on false first false false k k' old new new' w e m = omega arith
 
--- no carry stands past the last bit
+-- no carry stands
+moved-stop : (down first : Bool) (k old new : ℕ) → Moved down first false k old new → new + onlyIf (down && first) 1 ≡ old + onlyIf (not down && first) 1
+moved-stop true first k old new m = omega arith
+moved-stop false first k old new m = omega arith
+
+-- none can stand past the last bit
 moved-end : (down first rest : Bool) (most old new : ℕ) → new ≤ most → ((not down && first) ≡ true → old < most) → ((down && first) ≡ true → 1 ≤ old) → old ≤ most
     → Moved down first rest (most + 1) old new → new + onlyIf (down && first) 1 ≡ old + onlyIf (not down && first) 1
-moved-end true first false most old new low room some l m = omega arith
-moved-end false first false most old new low room some l m = omega arith
+moved-end true first false most old new low room some l m = moved-stop true first (most + 1) old new m
+moved-end false first false most old new low room some l m = moved-stop false first (most + 1) old new m
 moved-end true true true most old new low room some l m = absurd (omega (arith, some refl))
 moved-end true false true most old new low room some l m = absurd (omega arith)
 moved-end false true true most old new low room some l m = absurd (omega (arith, room refl))
@@ -166,45 +171,61 @@ ripple-on c planes mark at live₀ live i carry turned l near room e so-far s h 
     (moved-on (falls mark) (moved mark s) (carried carry at s) (inPlane c live i s) (2 ^ i) (2 ^ (i + 1)) (countOf c live₀ 0 planes s) (countOf c live 0 planes s) _
     (ap (λ (k : ℕ). 2 ^ k) (add-one i) ∙ pow-suc 2 i) (count-on c live i at carry room near planes s h l) (so-far s h))
 
+-- what a mark moves, by what it adds and takes
+module _ (mark s : ℕ) where
+  less' : (a o z : Bool) → (z && (a && (o || z))) ≡ (a && z)
+  less' true true true = refl
+  less' true true false = refl
+  less' true false true = refl
+  less' true false false = refl
+  less' false true true = refl
+  less' false true false = refl
+  less' false false true = refl
+  less' false false false = refl
+
+  more' : (a o z : Bool) → (z ≡ true → o ≡ false) → (not z && (a && (o || z))) ≡ (a && o)
+  more' true true true n = sym (n refl)
+  more' true true false n = refl
+  more' true false true n = refl
+  more' true false false n = refl
+  more' false true true n = refl
+  more' false true false n = refl
+  more' false false true n = refl
+  more' false false false n = refl
+
+  less : (falls mark && moved mark s) ≡ (eqb (mark / 4) s && eqb (mark % 4) 2)
+  less = less' (eqb (mark / 4) s) (eqb (mark % 4) 1) (eqb (mark % 4) 2)
+
+  more : (not (falls mark) && moved mark s) ≡ (eqb (mark / 4) s && eqb (mark % 4) 1)
+  more = more' (eqb (mark / 4) s) (eqb (mark % 4) 1) (eqb (mark % 4) 2) (λ q. ne-eqb (mark % 4) 1 (λ k. let z : mark % 4 ≡ 2 = eqb-true (mark % 4) 2 q in omega arith))
+
+  as-marked : (old new : ℕ) → new + onlyIf (falls mark && moved mark s) 1 ≡ old + onlyIf (not (falls mark) && moved mark s) 1
+      → new + takes mark s ≡ old + adds mark s
+  as-marked old new e = ap (λ (t : Bool). new + onlyIf t 1) (sym less) ∙ e ∙ ap (λ (t : Bool). old + onlyIf t 1) more
+
 -- past the last plane
 pub ripple-end : (c planes mark at : ℕ) (live₀ live : List ℕ) (i carry : ℕ) → i ≡ planes
     → (mark % 4 ≡ 1 → countOf c live₀ 0 planes (mark / 4) < largest planes) → (mark % 4 ≡ 2 → 1 ≤ countOf c live₀ 0 planes (mark / 4))
     → Rippled c planes mark at live₀ i carry live → Passed c live₀ planes mark live
 ripple-end c planes mark at live₀ live i carry e room some all s h =
-    ap (λ (t : Bool). countOf c live 0 planes s + onlyIf t 1) (sym less)
-    ∙ moved-end (falls mark) (moved mark s) (carried carry at s) (largest planes) (countOf c live₀ 0 planes s) (countOf c live 0 planes s)
+    as-marked mark s (countOf c live₀ 0 planes s) (countOf c live 0 planes s)
+    (moved-end (falls mark) (moved mark s) (carried carry at s) (largest planes) (countOf c live₀ 0 planes s) (countOf c live 0 planes s)
     (count-below c live 0 planes s)
-    (λ q. let both = and-both (eqb (mark / 4) s) (eqb (mark % 4) 1) (sym more ∙ q) in
+    (λ q. let both = and-both (eqb (mark / 4) s) (eqb (mark % 4) 1) (sym (more mark s) ∙ q) in
     subst (λ (k : ℕ). countOf c live₀ 0 planes k < largest planes) (eqb-true (mark / 4) s (both .0)) (room (eqb-true (mark % 4) 1 (both .1))))
-    (λ q. let both = and-both (eqb (mark / 4) s) (eqb (mark % 4) 2) (sym less ∙ q) in
+    (λ q. let both = and-both (eqb (mark / 4) s) (eqb (mark % 4) 2) (sym (less mark s) ∙ q) in
     subst (λ (k : ℕ). 1 ≤ countOf c live₀ 0 planes k) (eqb-true (mark / 4) s (both .0)) (some (eqb-true (mark % 4) 2 (both .1))))
     (count-below c live₀ 0 planes s)
     (subst (λ (k : ℕ). Moved (falls mark) (moved mark s) (carried carry at s) k (countOf c live₀ 0 planes s) (countOf c live 0 planes s))
-    (ap (λ (k : ℕ). 2 ^ k) e ∙ sym (largest-power planes)) (all s h))
-    ∙ ap (λ (t : Bool). countOf c live₀ 0 planes s + onlyIf t 1) more
+    (ap (λ (k : ℕ). 2 ^ k) e ∙ sym (largest-power planes)) (all s h)))
+
+-- where no carry stands, before it
+pub ripple-stop : (c planes mark at : ℕ) (live₀ live : List ℕ) (i carry : ℕ) → carry ≡ 0
+    → Rippled c planes mark at live₀ i carry live → Passed c live₀ planes mark live
+ripple-stop c planes mark at live₀ live i carry none all s h =
+    as-marked mark s (countOf c live₀ 0 planes s) (countOf c live 0 planes s)
+    (moved-stop (falls mark) (moved mark s) (2 ^ i) (countOf c live₀ 0 planes s) (countOf c live 0 planes s)
+    (subst (λ (t : Bool). Moved (falls mark) (moved mark s) t (2 ^ i) (countOf c live₀ 0 planes s) (countOf c live 0 planes s)) gone (all s h)))
   where
-    less' : (a o z : Bool) → (z && (a && (o || z))) ≡ (a && z)
-    less' true true true = refl
-    less' true true false = refl
-    less' true false true = refl
-    less' true false false = refl
-    less' false true true = refl
-    less' false true false = refl
-    less' false false true = refl
-    less' false false false = refl
-
-    more' : (a o z : Bool) → (z ≡ true → o ≡ false) → (not z && (a && (o || z))) ≡ (a && o)
-    more' true true true n = sym (n refl)
-    more' true true false n = refl
-    more' true false true n = refl
-    more' true false false n = refl
-    more' false true true n = refl
-    more' false true false n = refl
-    more' false false true n = refl
-    more' false false false n = refl
-
-    less : (falls mark && moved mark s) ≡ (eqb (mark / 4) s && eqb (mark % 4) 2)
-    less = less' (eqb (mark / 4) s) (eqb (mark % 4) 1) (eqb (mark % 4) 2)
-
-    more : (not (falls mark) && moved mark s) ≡ (eqb (mark / 4) s && eqb (mark % 4) 1)
-    more = more' (eqb (mark / 4) s) (eqb (mark % 4) 1) (eqb (mark % 4) 2) (λ q. ne-eqb (mark % 4) 1 (λ k. let z : mark % 4 ≡ 2 = eqb-true (mark % 4) 2 q in omega arith))
+    gone : carried carry at s ≡ false
+    gone = ap (λ (w : ℕ). eqb (s / 64) at && bit w (s % 64)) none ∙ ap (λ (t : Bool). eqb (s / 64) at && t) (bit-none (s % 64)) ∙ and-false (eqb (s / 64) at)

@@ -61,7 +61,7 @@ fn carry_of(mark: u32) -> u64
 }
 
 // The number of a mark's set as the mark says: one more, one less, or as it was. There is no branch on the mark: each plane has the carry or the
-// borrow by exclusive or, and hands it on where its bit was 1, or for a borrow 0.
+// borrow by exclusive or, and hands it on where its bit was 1, or for a borrow 0. Most numbers are 0 or 1, so that most carries end in the first plane.
 pub fn pass_mark(live: &mut [u64], caches: usize, planes: usize, mark: u32)
     requires { ⌜ (mark < 1024 * caches) × (planes ≤ 4) × (4 * (planes * caches) ≤ length (now live)) × (caches ≤ 2)
         × (mark % 4 ≡ 1 → countOf caches (now live) 0 planes (mark / 4) < largest planes)
@@ -77,6 +77,9 @@ pub fn pass_mark(live: &mut [u64], caches: usize, planes: usize, mark: u32)
         let w = live[k];
         live[k] = w ^ carry;
         carry = carry & (w ^ turned);
+        if carry == 0 {
+            return;
+        }
         i += 1;
     }
 }
