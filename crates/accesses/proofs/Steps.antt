@@ -22,15 +22,15 @@ module _ (base ways s x e : ℕ) (array marks : List ℕ) (idle : x ≡ 0) where
 
   pub idle-held : array ≡ slotHeld base ways s x e array
   unfolding slotHeld
-  idle-held = sym (ap (λ (t : Bool). cond t array (shifted (base + x) ((base + x) * 2048 + e) array (s * ways) ways)) none)
+  idle-held = sym (ap (λ (t : Bool). cond t array (shifted base (base + x) ((base + x) * 2048 + e) array (s * ways) ways)) none)
 
   pub idle-marks : set marks e 0 ≡ slotMarks base ways s x e array marks
   unfolding slotMarks
-  idle-marks = sym (ap (λ (t : Bool). cond t (set marks e 0) (markLoad marks e s (found (base + x) array (s * ways) ways))) none)
+  idle-marks = sym (ap (λ (t : Bool). cond t (set marks e 0) (markLoad marks e s (found base (base + x) array (s * ways) ways))) none)
 
   pub idle-missed : 0 ≡ slotMissed base ways s x array
   unfolding slotMissed
-  idle-missed = sym (ap (λ (t : Bool). cond t 0 (onlyIf (eqb (found (base + x) array (s * ways) ways) 0) 1)) none)
+  idle-missed = sym (ap (λ (t : Bool). cond t 0 (onlyIf (eqb (found base (base + x) array (s * ways) ways) 0) 1)) none)
 
 -- what a work word loads
 pub read-none : (w : ℕ) → (kindOf w ≡ 1 → ⊥) → readSlot w ≡ 0

@@ -1,60 +1,60 @@
 -- The entries of a set are those of its recency list: where a block stands, and what a load makes of them.
 -- Assumes nothing.
 use Prim.Native.Nat.{ℕ, zero, suc, _+_, _*_, _/_, _%_, _≤_, _<_}
-use mathlib.Core.Bool.{Bool, true, false, cond}
+use mathlib.Core.Bool.{Bool, true, false, cond, _||_}
 use mathlib.Core.List.{List, [], _∷_, map}
-use mathlib.Core.Path.{_≡_, refl, sym, ap, subst, _∙_}
+use mathlib.Core.Path.{_≡_, refl, sym, ap, ap₂, subst, _∙_}
 use native.Mathlib.Decide.{ℕ-discrete}
 use native.Mathlib.Omega.{arith}
-use borrow.Author.Tests.{eq-eqb, ne-eqb}
+use borrow.Author.Tests.{eq-eqb, ne-eqb, le-leb, lt-leb}
 use lib.ListN.{length, getD, set, take, length-set}
 use lib.Seq.{getD-set-same, getD-set-other}
 use Rattle.folds.proofs.Lists.{getD-set-all}
 use Rattle.lru.specs.Recency.{among, without}
-use Rattle.entries.specs.Entries.{isOf, found, shifted}
+use Rattle.entries.specs.Entries.{isOf, isEarlier, found, shifted}
 use Rattle.entries.specs.Marks.{Are, Earlier, AllEarlier}
 use Rattle.lru.proofs.Lists.{among-none, among-front, among-behind, without-none, without-front, without-behind}
 
 -- ---- words outside the entries stay
 
-module _ (x : ℕ) where
-  pub shifted-length : (v : ℕ) (held : List ℕ) (i n : ℕ) → length (shifted x v held i n) ≡ length held
+module _ (base x : ℕ) where
+  pub shifted-length : (v : ℕ) (held : List ℕ) (i n : ℕ) → length (shifted base x v held i n) ≡ length held
   unfolding shifted
   shifted-length v held i zero = refl
-  shifted-length v held i (suc n) = go (isOf x (getD held i 0)) (shifted-length (getD held i 0) (set held i v) (suc i) n)
+  shifted-length v held i (suc n) = go (isOf x (getD held i 0) || isEarlier base (getD held i 0)) (shifted-length (getD held i 0) (set held i v) (suc i) n)
     where
-      go : (t : Bool) → length (shifted x (getD held i 0) (set held i v) (suc i) n) ≡ length (set held i v)
-          → length (cond t (set held i v) (shifted x (getD held i 0) (set held i v) (suc i) n)) ≡ length held
+      go : (t : Bool) → length (shifted base x (getD held i 0) (set held i v) (suc i) n) ≡ length (set held i v)
+          → length (cond t (set held i v) (shifted base x (getD held i 0) (set held i v) (suc i) n)) ≡ length held
       go true next = length-set held i v
       go false next = next ∙ length-set held i v
 
-  pub shifted-outside : (v : ℕ) (held : List ℕ) (i n j : ℕ) → ((k : ℕ) → i ≤ k → k < i + n → j ≡ k → ⊥) → getD (shifted x v held i n) j 0 ≡ getD held j 0
+  pub shifted-outside : (v : ℕ) (held : List ℕ) (i n j : ℕ) → ((k : ℕ) → i ≤ k → k < i + n → j ≡ k → ⊥) → getD (shifted base x v held i n) j 0 ≡ getD held j 0
   unfolding shifted
   shifted-outside v held i zero j out = refl
   shifted-outside v held i (suc n) j out =
-      go (isOf x (getD held i 0)) (shifted-outside (getD held i 0) (set held i v) (suc i) n j (λ k h l. out k (omega arith) (omega arith)))
+      go (isOf x (getD held i 0) || isEarlier base (getD held i 0)) (shifted-outside (getD held i 0) (set held i v) (suc i) n j (λ k h l. out k (omega arith) (omega arith)))
     where
       here : getD (set held i v) j 0 ≡ getD held j 0
       here = getD-set-other held i j v 0 (out i (omega arith) (omega arith))
 
-      go : (t : Bool) → getD (shifted x (getD held i 0) (set held i v) (suc i) n) j 0 ≡ getD (set held i v) j 0
-          → getD (cond t (set held i v) (shifted x (getD held i 0) (set held i v) (suc i) n)) j 0 ≡ getD held j 0
+      go : (t : Bool) → getD (shifted base x (getD held i 0) (set held i v) (suc i) n) j 0 ≡ getD (set held i v) j 0
+          → getD (cond t (set held i v) (shifted base x (getD held i 0) (set held i v) (suc i) n)) j 0 ≡ getD held j 0
       go true next = here
       go false next = next ∙ here
 
 -- every word is one that was there, or v
-pub shifted-all : (P : ℕ → Type 0) (x v : ℕ) (held : List ℕ) (i n : ℕ) → i + n ≤ length held → P v → ((j : ℕ) → P (getD held j 0))
-    → (j : ℕ) → P (getD (shifted x v held i n) j 0)
+pub shifted-all : (P : ℕ → Type 0) (base x v : ℕ) (held : List ℕ) (i n : ℕ) → i + n ≤ length held → P v → ((j : ℕ) → P (getD held j 0))
+    → (j : ℕ) → P (getD (shifted base x v held i n) j 0)
 unfolding shifted
-shifted-all P x v held i zero room new old j = old j
-shifted-all P x v held i (suc n) room new old j =
-    go (isOf x (getD held i 0)) (shifted-all P x (getD held i 0) (set held i v) (suc i) n (omega (arith, length-set held i v)) (old i) stored j)
+shifted-all P base x v held i zero room new old j = old j
+shifted-all P base x v held i (suc n) room new old j =
+    go (isOf x (getD held i 0) || isEarlier base (getD held i 0)) (shifted-all P base x (getD held i 0) (set held i v) (suc i) n (omega (arith, length-set held i v)) (old i) stored j)
   where
     stored : (k : ℕ) → P (getD (set held i v) k 0)
     stored = getD-set-all P held i v 0 (omega arith) new old
 
-    go : (t : Bool) → P (getD (shifted x (getD held i 0) (set held i v) (suc i) n) j 0)
-        → P (getD (cond t (set held i v) (shifted x (getD held i 0) (set held i v) (suc i) n)) j 0)
+    go : (t : Bool) → P (getD (shifted base x (getD held i 0) (set held i v) (suc i) n) j 0)
+        → P (getD (cond t (set held i v) (shifted base x (getD held i 0) (set held i v) (suc i) n)) j 0)
     go true next = stored j
     go false next = next
 
@@ -66,10 +66,6 @@ are-same base held held' i (suc n) [] same are =
     (subst (Earlier base) (sym (same i (omega arith) (omega arith))) (are .0), are-same base held held' (suc i) n [] (λ j h k. same j (omega arith) (omega arith)) (are .1))
 are-same base held held' i (suc n) (v ∷ vs) same are =
     (same i (omega arith) (omega arith) ∙ are .0, are-same base held held' (suc i) n vs (λ j h k. same j (omega arith) (omega arith)) (are .1))
-
-are-earlier : (base : ℕ) (held : List ℕ) (i n v : ℕ) → Earlier base v → Are base held i n (v ∷ []) → Are base held i n []
-are-earlier base held i zero v h are = tt
-are-earlier base held i (suc n) v h are = (subst (Earlier base) (sym (are .0)) h, are .1)
 
 -- before the first slot no block is held
 pub are-empty : (base : ℕ) (held : List ℕ) (i n : ℕ) → AllEarlier base held → Are base held i n []
@@ -103,70 +99,75 @@ module _ (base : ℕ) (slot : ℕ → ℕ) (m : ℕ) where
     none : (held : List ℕ) (i : ℕ) → Earlier base (getD held i 0) → isOf (base + suc m) (getD held i 0) ≡ false
     none held i h = ne-eqb (getD held i 0 / 2048) (base + suc m) (λ q. let z : getD held i 0 / 2048 < base + 1 = omega (arith, h) in omega (arith, q, z))
 
-    pub found-is : (held : List ℕ) (i n : ℕ) (ms : List ℕ) → Are base held i n (map code ms) → found (base + suc m) held i n ≡ cond (among m (take n ms)) (suc (slot m)) 0
+    -- of an earlier trace, and of this one
+    old : (held : List ℕ) (i : ℕ) → Earlier base (getD held i 0) → isEarlier base (getD held i 0) ≡ true
+    old held i h = le-leb (getD held i 0 / 2048) base (omega (arith, h))
+
+    fresh : (held : List ℕ) (i y : ℕ) → getD held i 0 ≡ code y → isEarlier base (getD held i 0) ≡ false
+    fresh held i y e = lt-leb (getD held i 0 / 2048) base (omega (arith, ap (λ (z : ℕ). z / 2048) e ∙ code-of y (small y)))
+
+    pub found-is : (held : List ℕ) (i n : ℕ) (ms : List ℕ) → Are base held i n (map code ms) → found base (base + suc m) held i n ≡ cond (among m (take n ms)) (suc (slot m)) 0
     unfolding found
     found-is held i zero ms are = sym (ap (λ (t : Bool). cond t (suc (slot m)) 0) (among-none m))
     found-is held i (suc n) [] are =
-        ap (λ (t : Bool). cond t (1 + getD held i 0 % 2048) (found (base + suc m) held (suc i) n)) (none held i (are .0))
-        ∙ found-is held (suc i) n [] (are .1) ∙ ap (λ (ms : List ℕ). cond (among m ms) (suc (slot m)) 0) (take-none n)
-      where
-        take-none : (k : ℕ) → take {A = ℕ} k [] ≡ take (suc k) []
-        take-none zero = refl
-        take-none (suc k) = refl
+        ap₂ (λ (t u : Bool). cond t (1 + getD held i 0 % 2048) (cond u 0 (found base (base + suc m) held (suc i) n))) (none held i (are .0)) (old held i (are .0))
+        ∙ sym (ap (λ (t : Bool). cond t (suc (slot m)) 0) (among-none m))
     found-is held i (suc n) (y ∷ ms) are = go (found-is held (suc i) n ms (are .1)) (ℕ-discrete y m)
       where
-        go : found (base + suc m) held (suc i) n ≡ cond (among m (take n ms)) (suc (slot m)) 0 → Dec (y ≡ m)
-            → cond (isOf (base + suc m) (getD held i 0)) (1 + getD held i 0 % 2048) (found (base + suc m) held (suc i) n) ≡ cond (among m (y ∷ take n ms)) (suc (slot m)) 0
+        by : Bool → Bool → ℕ
+        by t u = cond t (1 + getD held i 0 % 2048) (cond u 0 (found base (base + suc m) held (suc i) n))
+
+        go : found base (base + suc m) held (suc i) n ≡ cond (among m (take n ms)) (suc (slot m)) 0 → Dec (y ≡ m)
+            → by (isOf (base + suc m) (getD held i 0)) (isEarlier base (getD held i 0)) ≡ cond (among m (y ∷ take n ms)) (suc (slot m)) 0
         go next (yes q) =
-            ap (λ (t : Bool). cond t (1 + getD held i 0 % 2048) (found (base + suc m) held (suc i) n)) (own held i y (are .0) q)
+            ap (λ (t : Bool). by t (isEarlier base (getD held i 0))) (own held i y (are .0) q)
             ∙ (let s : 1 + getD held i 0 % 2048 ≡ suc (slot m) = omega (arith, ap (λ (z : ℕ). z % 2048) (are .0) ∙ code-slot y (small y), ap slot q) in s)
             ∙ sym (ap (λ (t : Bool). cond t (suc (slot m)) 0) (ap (λ (z : ℕ). among m (z ∷ take n ms)) q ∙ among-front m (take n ms)))
         go next (no o) =
-            ap (λ (t : Bool). cond t (1 + getD held i 0 % 2048) (found (base + suc m) held (suc i) n)) (other held i y (are .0) o) ∙ next
+            ap₂ by (other held i y (are .0) o) (fresh held i y (are .0)) ∙ next
             ∙ sym (ap (λ (t : Bool). cond t (suc (slot m)) 0) (among-behind y m (take n ms) o))
 
-    front : (held : List ℕ) (i n v w : ℕ) → i < length held → getD (shifted (base + suc m) w (set held i v) (suc i) n) i 0 ≡ v
-    front held i n v w h = shifted-outside (base + suc m) w (set held i v) (suc i) n i (λ k h l e. omega arith) ∙ getD-set-same held i v 0 h
+    front : (held : List ℕ) (i n v w : ℕ) → i < length held → getD (shifted base (base + suc m) w (set held i v) (suc i) n) i 0 ≡ v
+    front held i n v w h = shifted-outside base (base + suc m) w (set held i v) (suc i) n i (λ k h l e. omega arith) ∙ getD-set-same held i v 0 h
 
     moved : (held : List ℕ) (i n v : ℕ) (vs : List ℕ) → Are base held (suc i) n vs → Are base (set held i v) (suc i) n vs
     moved held i n v vs are = are-same base held (set held i v) (suc i) n vs (λ j h k. getD-set-other held i j v 0 (λ e. omega arith)) are
 
-    stop : (held : List ℕ) (i n v : ℕ) → isOf (base + suc m) (getD held i 0) ≡ true → shifted (base + suc m) v held i (suc n) ≡ set held i v
-    unfolding shifted
-    stop held i n v e = ap (λ (t : Bool). cond t (set held i v) (shifted (base + suc m) (getD held i 0) (set held i v) (suc i) n)) e
+    abbrev stops : ℕ → Bool
+    stops entry = isOf (base + suc m) entry || isEarlier base entry
 
-    go-on : (held : List ℕ) (i n v : ℕ) → isOf (base + suc m) (getD held i 0) ≡ false
-        → shifted (base + suc m) v held i (suc n) ≡ shifted (base + suc m) (getD held i 0) (set held i v) (suc i) n
+    stop : (held : List ℕ) (i n v : ℕ) → stops (getD held i 0) ≡ true → shifted base (base + suc m) v held i (suc n) ≡ set held i v
     unfolding shifted
-    go-on held i n v e = ap (λ (t : Bool). cond t (set held i v) (shifted (base + suc m) (getD held i 0) (set held i v) (suc i) n)) e
+    stop held i n v e = ap (λ (t : Bool). cond t (set held i v) (shifted base (base + suc m) (getD held i 0) (set held i v) (suc i) n)) e
+
+    go-on : (held : List ℕ) (i n v : ℕ) → stops (getD held i 0) ≡ false
+        → shifted base (base + suc m) v held i (suc n) ≡ shifted base (base + suc m) (getD held i 0) (set held i v) (suc i) n
+    unfolding shifted
+    go-on held i n v e = ap (λ (t : Bool). cond t (set held i v) (shifted base (base + suc m) (getD held i 0) (set held i v) (suc i) n)) e
 
     -- v comes to the front of what is left without m
     pub shifted-is : (held : List ℕ) (i n v : ℕ) (ms : List ℕ) → i + n ≤ length held → Are base held i n (map code ms)
-        → Are base (shifted (base + suc m) v held i n) i n (v ∷ map code (without m ms))
+        → Are base (shifted base (base + suc m) v held i n) i n (v ∷ map code (without m ms))
     shifted-is held i zero v ms room are = tt
     shifted-is held i (suc n) v [] room are =
-        let rest = shifted (base + suc m) (getD held i 0) (set held i v) (suc i) n in
-        let next : Are base (shifted (base + suc m) (getD held i 0) (set held i v) (suc i) n) (suc i) n (getD held i 0 ∷ map code (without m [])) =
-        shifted-is (set held i v) (suc i) n (getD held i 0) [] (omega (arith, length-set held i v)) (moved held i n v [] (are .1)) in
-        subst (λ (h : List ℕ). Are base h i (suc n) (v ∷ map code (without m []))) (sym (go-on held i n v (none held i (are .0)))) (
-          front held i n v (getD held i 0) (omega arith),
-          subst (λ (ms : List ℕ). Are base rest (suc i) n (map code ms)) (sym (without-none m))
-              (are-earlier base rest (suc i) n (getD held i 0) (are .0) (subst (λ (ms : List ℕ). Are base rest (suc i) n (getD held i 0 ∷ map code ms)) (without-none m) next)),
+        subst (λ (h : List ℕ). Are base h i (suc n) (v ∷ map code (without m []))) (sym (stop held i n v (ap₂ _||_ (none held i (are .0)) (old held i (are .0))))) (
+          getD-set-same held i v 0 (omega arith),
+          subst (λ (ms : List ℕ). Are base (set held i v) (suc i) n (map code ms)) (sym (without-none m)) (moved held i n v [] (are .1)),
         )
     shifted-is held i (suc n) v (y ∷ ms) room are =
         go (shifted-is (set held i v) (suc i) n (getD held i 0) ms (omega (arith, length-set held i v)) (moved held i n v (map code ms) (are .1))) (ℕ-discrete y m)
       where
-        go : Are base (shifted (base + suc m) (getD held i 0) (set held i v) (suc i) n) (suc i) n (getD held i 0 ∷ map code (without m ms)) → Dec (y ≡ m)
-            → Are base (shifted (base + suc m) v held i (suc n)) i (suc n) (v ∷ map code (without m (y ∷ ms)))
+        go : Are base (shifted base (base + suc m) (getD held i 0) (set held i v) (suc i) n) (suc i) n (getD held i 0 ∷ map code (without m ms)) → Dec (y ≡ m)
+            → Are base (shifted base (base + suc m) v held i (suc n)) i (suc n) (v ∷ map code (without m (y ∷ ms)))
         go next (yes q) =
-            subst (λ (h : List ℕ). Are base h i (suc n) (v ∷ map code (without m (y ∷ ms)))) (sym (stop held i n v (own held i y (are .0) q))) (
+            subst (λ (h : List ℕ). Are base h i (suc n) (v ∷ map code (without m (y ∷ ms)))) (sym (stop held i n v (ap (λ (t : Bool). t || isEarlier base (getD held i 0)) (own held i y (are .0) q)))) (
               getD-set-same held i v 0 (omega arith),
               subst (λ (xs : List ℕ). Are base (set held i v) (suc i) n (map code xs)) (sym (ap (λ (z : ℕ). without m (z ∷ ms)) q ∙ without-front m ms))
                   (moved held i n v (map code ms) (are .1)),
             )
         go next (no o) =
-            subst (λ (h : List ℕ). Are base h i (suc n) (v ∷ map code (without m (y ∷ ms)))) (sym (go-on held i n v (other held i y (are .0) o))) (
+            subst (λ (h : List ℕ). Are base h i (suc n) (v ∷ map code (without m (y ∷ ms)))) (sym (go-on held i n v (ap₂ _||_ (other held i y (are .0) o) (fresh held i y (are .0))))) (
               front held i n v (getD held i 0) (omega arith),
-              subst (λ (vs : List ℕ). Are base (shifted (base + suc m) (getD held i 0) (set held i v) (suc i) n) (suc i) n vs)
+              subst (λ (vs : List ℕ). Are base (shifted base (base + suc m) (getD held i 0) (set held i v) (suc i) n) (suc i) n vs)
                   (ap (λ (f : ℕ). f ∷ map code (without m ms)) (are .0) ∙ sym (ap (map code) (without-behind y m ms o))) next,
             )

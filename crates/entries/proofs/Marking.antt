@@ -256,14 +256,14 @@ module _ (place : ℕ → ℕ) (ways : ℕ) (l : ℕ → ℕ) (base : ℕ) where
     small : (y : ℕ) → lastOf l e y < 2048
     small y = last-small l y e (omega arith)
 
-    pub found-load : found (base + suc m) array (s * ways) ways ≡ cond (hits place ways (before l e) m) (suc (lastOf l e m)) 0
+    pub found-load : found base (base + suc m) array (s * ways) ways ≡ cond (hits place ways (before l e) m) (suc (lastOf l e m)) 0
     found-load =
         found-is base (lastOf l e) m small array (s * ways) ways (recent place s (before l e)) (all s there)
         ∙ ap (λ (t : Bool). cond t (suc (lastOf l e m)) 0)
         (ap (λ (j : ℕ). among m (held place ways j (before l e))) own ∙ sym (hits-is place ways (before l e) m))
 
     abbrev array' : List ℕ
-    array' = shifted (base + suc m) ((base + suc m) * 2048 + e) array (s * ways) ways
+    array' = shifted base (base + suc m) ((base + suc m) * 2048 + e) array (s * ways) ways
 
     now-before : before l (suc e) ≡ m ∷ before l e
     unfolding before
@@ -307,7 +307,7 @@ module _ (place : ℕ → ℕ) (ways : ℕ) (l : ℕ → ℕ) (base : ℕ) where
 
             outside : (j : ℕ) → t * ways ≤ j → j < t * ways + ways → getD array' j 0 ≡ getD array j 0
             outside j a b =
-                shifted-outside (base + suc m) ((base + suc m) * 2048 + e) array (s * ways) ways j
+                shifted-outside base (base + suc m) ((base + suc m) * 2048 + e) array (s * ways) ways j
                 (λ k c d q. ⊎-elim (λ (le : s ≤ t). omega (arith, q, apart s t ways (lt-of-le-ne le (λ r. o (sym own ∙ r))))) (λ (lt : t < s). omega (arith, q, apart t s ways lt))
                 (le-or-lt s t))
 
@@ -332,14 +332,14 @@ module _ (place : ℕ → ℕ) (ways : ℕ) (l : ℕ → ℕ) (base : ℕ) where
     scan-slot (suc m) q few own =
         let load : l e ≡ suc m = sym q in
         let known = found-load e m s array sets load (own m refl) there short (all .0) (all .2) in
-        let last = found (base + suc m) array (s * ways) ways in
+        let last = found base (base + suc m) array (s * ways) ways in
         rw (eqb·suc-zero m) (
           (
-            omega (arith, shifted-length (base + suc m) ((base + suc m) * 2048 + e) array (s * ways) ways, all .0),
+            omega (arith, shifted-length base (base + suc m) ((base + suc m) * 2048 + e) array (s * ways) ways, all .0),
             omega (arith, load-length marks e s last, all .1),
             held-load e m s array sets load (own m refl) there short (all .0) (all .2),
             mark-load e marks (omega (arith, all .1)) (all .3) m s last load (own m refl) known,
-            shifted-all (Earlier (nextBase base)) (base + suc m) ((base + suc m) * 2048 + e) array (s * ways) ways (omega (arith, apart s sets ways there, all .0))
+            shifted-all (Earlier (nextBase base)) base (base + suc m) ((base + suc m) * 2048 + e) array (s * ways) ways (omega (arith, apart s sets ways there, all .0))
                 (omega arith) (all .4),
           ),
           missed-is known,
@@ -349,8 +349,8 @@ module _ (place : ℕ → ℕ) (ways : ℕ) (l : ℕ → ℕ) (base : ℕ) where
         tested true = ap (λ (t : Bool). onlyIf t 1) (eqb·suc-zero (lastOf l e m))
         tested false = refl
 
-        missed-is : found (base + suc m) array (s * ways) ways ≡ cond (hits place ways (before l e) m) (suc (lastOf l e m)) 0
-            → onlyIf (eqb (found (base + suc m) array (s * ways) ways) 0) 1 ≡ onlyIf (not (eqb (l e) 0) && not (hits place ways (before l e) (l e - 1))) 1
+        missed-is : found base (base + suc m) array (s * ways) ways ≡ cond (hits place ways (before l e) m) (suc (lastOf l e m)) 0
+            → onlyIf (eqb (found base (base + suc m) array (s * ways) ways) 0) 1 ≡ onlyIf (not (eqb (l e) 0) && not (hits place ways (before l e) (l e - 1))) 1
         missed-is known =
             let less : suc m - 1 ≡ m = omega arith in
             ap (λ (y : ℕ). onlyIf (eqb y 0) 1) known ∙ tested (hits place ways (before l e) m)

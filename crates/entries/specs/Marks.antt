@@ -67,10 +67,10 @@ markLoad marks e s last = cond (eqb last 0) (markMiss marks e s) (markHit marks 
 
 -- a slot that loads x (a block + 1, or 0 for nothing) into set s: the entries and the marks after it, and 1 where its load misses
 unfoldable pub slotHeld : ℕ → ℕ → ℕ → ℕ → ℕ → List ℕ → List ℕ
-slotHeld base ways s x e array = cond (eqb x 0) array (shifted (base + x) ((base + x) * 2048 + e) array (s * ways) ways)
+slotHeld base ways s x e array = cond (eqb x 0) array (shifted base (base + x) ((base + x) * 2048 + e) array (s * ways) ways)
 
 unfoldable pub slotMarks : ℕ → ℕ → ℕ → ℕ → ℕ → List ℕ → List ℕ → List ℕ
-slotMarks base ways s x e array marks = cond (eqb x 0) (set marks e 0) (markLoad marks e s (found (base + x) array (s * ways) ways))
+slotMarks base ways s x e array marks = cond (eqb x 0) (set marks e 0) (markLoad marks e s (found base (base + x) array (s * ways) ways))
 
 unfoldable pub slotMissed : ℕ → ℕ → ℕ → ℕ → List ℕ → ℕ
-slotMissed base ways s x array = cond (eqb x 0) 0 (onlyIf (eqb (found (base + x) array (s * ways) ways) 0) 1)
+slotMissed base ways s x array = cond (eqb x 0) 0 (onlyIf (eqb (found base (base + x) array (s * ways) ways) 0) 1)

@@ -5,11 +5,11 @@ ghost use lib.ListN.{length};
 ghost use Rattle.entries.specs.Entries.{found, shifted};
 
 // Loads a block, whose key is x, in slot e into the set whose entries are the `ways` words from `from` on: it comes to the front. The slot + 1 of its
-// last load where it was held, and 0 where the load misses.
-pub fn touch(held: &mut [u64], from: usize, ways: usize, x: u64, e: u64) -> u64
+// last load where it was held, and 0 where the load misses. An entry of an earlier trace is lost first, and none past it is looked at.
+pub fn touch(held: &mut [u64], from: usize, ways: usize, base: u64, x: u64, e: u64) -> u64
     requires { ⌜ (from + ways ≤ length (now held)) × (x ≤ 4294967295) × (e < 2048) ⌝ }
-    ensures { λ r. ⌜ (r ≡ found x (now (held .entry)) from ways)
-        × (now (held .exit) ≡ shifted x (x * 2048 + e) (now (held .entry)) from ways) × (r ≤ 2048) ⌝ }
+    ensures { λ r. ⌜ (r ≡ found base x (now (held .entry)) from ways)
+        × (now (held .exit) ≡ shifted base x (x * 2048 + e) (now (held .entry)) from ways) × (r ≤ 2048) ⌝ }
 {
     let end = from + ways;
     let mut carried = x * 2048 + e;
@@ -19,6 +19,9 @@ pub fn touch(held: &mut [u64], from: usize, ways: usize, x: u64, e: u64) -> u64
         held[k] = carried;
         if entry / 2048 == x {
             return 1 + entry % 2048;
+        }
+        if entry / 2048 <= base {
+            return 0;
         }
         carried = entry;
         k += 1;

@@ -29,22 +29,22 @@ module _ (base ways s x e : ℕ) (array marks : List ℕ) (load : x ≡ 0 → �
   loads : eqb x 0 ≡ false
   loads = ne-eqb x 0 load
 
-  pub load-held : shifted (base + x) ((base + x) * 2048 + e) array (s * ways) ways ≡ slotHeld base ways s x e array
+  pub load-held : shifted base (base + x) ((base + x) * 2048 + e) array (s * ways) ways ≡ slotHeld base ways s x e array
   unfolding slotHeld
-  load-held = sym (ap (λ (t : Bool). cond t array (shifted (base + x) ((base + x) * 2048 + e) array (s * ways) ways)) loads)
+  load-held = sym (ap (λ (t : Bool). cond t array (shifted base (base + x) ((base + x) * 2048 + e) array (s * ways) ways)) loads)
 
-  module _ (last : ℕ) (known : last ≡ found (base + x) array (s * ways) ways) where
+  module _ (last : ℕ) (known : last ≡ found base (base + x) array (s * ways) ways) where
     marks-is : markLoad marks e s last ≡ slotMarks base ways s x e array marks
     unfolding slotMarks
     marks-is =
         ap (markLoad marks e s) known
-        ∙ sym (ap (λ (t : Bool). cond t (set marks e 0) (markLoad marks e s (found (base + x) array (s * ways) ways))) loads)
+        ∙ sym (ap (λ (t : Bool). cond t (set marks e 0) (markLoad marks e s (found base (base + x) array (s * ways) ways))) loads)
 
     missed-is : onlyIf (eqb last 0) 1 ≡ slotMissed base ways s x array
     unfolding slotMissed
     missed-is =
         ap (λ (y : ℕ). onlyIf (eqb y 0) 1) known
-        ∙ sym (ap (λ (t : Bool). cond t 0 (onlyIf (eqb (found (base + x) array (s * ways) ways) 0) 1)) loads)
+        ∙ sym (ap (λ (t : Bool). cond t 0 (onlyIf (eqb (found base (base + x) array (s * ways) ways) 0) 1)) loads)
 
     pub load-missed : last ≡ 0 → (1 ≡ slotMissed base ways s x array) × (markMiss marks e s ≡ slotMarks base ways s x e array marks)
     unfolding markLoad

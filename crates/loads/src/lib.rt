@@ -22,7 +22,7 @@ pub fn mark_ways(
         × (now (marks .exit) ≡ slotMarks base ways s (block + 1) e (now (held .entry)) (now (marks .entry))) × (r ≤ 1) ⌝ }
 {
     let x = base + ((block as u64) + 1);
-    let last = touch(held, s * ways, ways, x, e as u64);
+    let last = touch(held, s * ways, ways, base, x, e as u64);
     if last == 0 {
         marks[e] = 4 * (s as u32);
         return 1;
