@@ -4,7 +4,7 @@ pub mod records;
 pub mod word;
 
 ghost use mathlib.Core.Path.{_≡_};
-ghost use mathlib.Core.Bool.{_&&_, _||_, false};
+ghost use mathlib.Core.Bool.{_&&_, _||_, false, true};
 ghost use Prim.Native.Nat.{ℕ, _<_, _≤_};
 ghost use lib.Dec.{eqb};
 ghost use lib.Bits.{bitAnd};
@@ -18,6 +18,13 @@ pub fn empty() -> [u64; 8]
     ensures { λ r. ⌜ r ≡ wordsOf 8 (λ (t : ℕ). false) ⌝ }
 {
     [0u64; 8]
+}
+
+// The set of all numbers below 512.
+pub fn full() -> [u64; 8]
+    ensures { λ r. ⌜ r ≡ wordsOf 8 (λ (t : ℕ). true) ⌝ }
+{
+    [18446744073709551615u64; 8]
 }
 
 // Adds s to a set that is lent.

@@ -4,12 +4,12 @@ use Prim.Native.Nat.{ℕ, _+_, _*_, _/_, _%_, _≤_, _<_, max}
 use mathlib.Core.Bool.{Bool, true, false}
 use mathlib.Core.List.{List}
 use mathlib.Core.Path.{_≡_, sym, ap, ap₂, subst, _∙_}
-use native.Mathlib.Nat.{mul-le-mul, mul-le-mul-right, add-mul, mul-assoc, add-zero, zero-add}
+use native.Mathlib.Nat.{le-refl, le-trans, mul-le-mul, mul-le-mul-right, add-mul, mul-assoc, add-zero, zero-add}
 use native.Mathlib.Omega.{arith}
 use lib.ListN.{getD}
 use Rattle.folds.specs.Folds.{onlyIf, sumWhere, maxTo}
 use Rattle.folds.specs.Stored.{Stored}
-use Rattle.folds.proofs.Folds.{sumTo-cong, maxTo-none, maxTo-next, maxTo-cong, maxTo-bound}
+use Rattle.folds.proofs.Folds.{sumTo-cong, sumWhere-rise, maxTo-none, maxTo-next, maxTo-cong, maxTo-bound, maxTo-part}
 use Rattle.folds.proofs.Lists.{getD-tabulate}
 use Rattle.folds.proofs.Loops.{maxTo-turn}
 use Rattle.folds.proofs.Stored.{stored-more, stored-same}
@@ -112,6 +112,17 @@ pub mostCommon-cong : (c : ℕ) (lives : List ℕ) (stride planes m : ℕ) (test
 unfolding mostCommon
 mostCommon-cong c lives stride planes m test test' same =
     maxTo-cong _ _ m (λ q h. sumTo-cong _ _ (setsOf c) (λ s l. ap (λ (t : Bool). onlyIf t (countOf c lives (q * stride) planes s)) (same s l)))
+
+-- a test that passes more
+pub mostCommon-rise : (c : ℕ) (lives : List ℕ) (stride planes m : ℕ) (test test' : ℕ → Bool) → ((s : ℕ) → s < setsOf c → test s ≡ true → test' s ≡ true)
+    → mostCommon c lives stride planes m test ≤ mostCommon c lives stride planes m test'
+unfolding mostCommon
+mostCommon-rise c lives stride planes m test test' more =
+    maxTo-bound _ m _
+    (λ q h. le-trans
+    (sumWhere-rise test test' (countOf c lives (q * stride) planes) (countOf c lives (q * stride) planes) (setsOf c) (setsOf c) (le-refl (setsOf c))
+    (λ s l e. (more s l e, le-refl (countOf c lives (q * stride) planes s))))
+    (maxTo-part (λ q. sumWhere test' (countOf c lives (q * stride) planes) (setsOf c)) m q h))
 
 -- a record within the buffer
 pub record-within : (c q m stride planes : ℕ) → q < m → planes ≤ stride → (q * stride + planes) * c ≤ m * stride * c

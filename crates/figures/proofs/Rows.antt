@@ -1,7 +1,7 @@
 -- Laws of a row of overheads, raised word by word.
 -- Assumes nothing.
 use Prim.Native.Nat.{ℕ, _+_, _*_, _≤_, _<_, max}
-use mathlib.Core.Bool.{Bool, false, true}
+use mathlib.Core.Bool.{Bool, false, true, _&&_}
 use mathlib.Core.List.{List}
 use mathlib.Core.Path.{_≡_, refl, sym, ap, ap₂, _∙_}
 use native.Mathlib.Nat.{le-refl, mul-le-mul-right, add-mul, one-mul}
@@ -9,12 +9,15 @@ use native.Mathlib.Omega.{arith}
 use lib.Dec.{eqb}
 use lib.ListN.{getD, set}
 use Rattle.folds.specs.Folds.{onlyIf, fillTo}
+use borrow.Author.Tests.{eqb-true}
 use Rattle.folds.proofs.Numbers.{onlyIf-zero}
+use Rattle.folds.proofs.Folds.{anyTo-rise}
 use Rattle.folds.proofs.Lists.{length-fillTo, fillTo-below, fillTo-from, fillTo-is, fillTo-cong}
 use Rattle.folds.proofs.Loops.{fillTo-turn}
 use Rattle.board.specs.Layout.{core}
 use Rattle.counts.specs.Records.{mostCommon}
-use Rattle.counts.proofs.Buffers.{mostCommon-none}
+use Rattle.counts.proofs.Buffers.{mostCommon-none, mostCommon-rise}
+use Rattle.figures.specs.Figures.{evicting}
 use Rattle.figures.specs.Overhead.{evictedBy}
 use Rattle.figures.specs.Rows.{onCoreOf, raised}
 
@@ -60,6 +63,32 @@ raised-more b i F G H row out next e q both =
     q ∙ ap (raised (onCoreOf b i G) i) e ∙ raised-both (onCoreOf b i F) (onCoreOf b i G) i row
     ∙ fillTo-cong _ _ row i
     (λ j l. ap (max (getD row j 0)) (onlyIf-max (eqb (core b i) (core b j)) (F j) (G j) ∙ ap (onlyIf (eqb (core b i) (core b j))) (both j)))
+
+-- ---- counts by what the tasks of a core evict
+
+-- a lower task evicts what a higher one on its core does
+evictedBy-rise : (b : List ℕ) (j k s : ℕ) → j ≤ k → core b j ≡ core b k → evictedBy b j s ≡ true → evictedBy b k s ≡ true
+unfolding evictedBy
+evictedBy-rise b j k s h same =
+    anyTo-rise (λ t. eqb (core b t) (core b j) && evicting b t s) (λ t. eqb (core b t) (core b k) && evicting b t s) (j + 1) (k + 1) (omega arith)
+    (λ t l e. sym (ap (λ (x : ℕ). eqb (core b t) x && evicting b t s) same) ∙ e)
+
+module _ (b : List ℕ) (i c : ℕ) (lives : List ℕ) (planes used m most : ℕ) where
+  abbrev countBy : ℕ → ℕ
+  countBy k = mostCommon c lives planes used m (evictedBy b k)
+
+  -- where the count has reached the most that there is, so it does for the tasks from j on that are on the core of task i
+  abbrev pub Reached : ℕ → ℕ → Type 0
+  Reached j count = count ≡ most → (k : ℕ) → j ≤ k → eqb (core b i) (core b k) ≡ true → countBy k ≡ most
+
+  module _ (all : (test : ℕ → Bool) → mostCommon c lives planes used m test ≤ most) where
+    pub reached-none : Reached 0 0
+    reached-none e k h same = omega (arith, all (evictedBy b k), e)
+
+    pub reached-on : (j : ℕ) → eqb (core b i) (core b j) ≡ true → Reached (j + 1) (countBy j)
+    reached-on j here e k h same =
+        let on : core b j ≡ core b k = sym (eqb-true (core b i) (core b j) here) ∙ eqb-true (core b i) (core b k) same in
+        omega (arith, e, all (evictedBy b k), mostCommon-rise c lives planes used m (evictedBy b j) (evictedBy b k) (λ s l. evictedBy-rise b j k s (omega arith) on))
 
 -- ---- the table
 

@@ -1,7 +1,7 @@
 -- Laws of the sums, maxima, counts and tests: none, one more, equal parts, larger parts, a bound, a prefix.
 -- Assumes nothing.
 use Prim.Native.Nat.{ℕ, zero, suc, _+_, _*_, _≤_, _<_, zero-le, max}
-use mathlib.Core.Bool.{Bool, true, false, _||_, or-true}
+use mathlib.Core.Bool.{Bool, true, false, _||_, or-true, or-false, false≢true}
 use mathlib.Core.Logic.{_⊎_, inl, inr, ⊎-elim}
 use mathlib.Core.Path.{_≡_, refl, sym, ap, ap₂, _∙_}
 use native.Mathlib.Nat.{le-trans, eq-or-lt-of-le, le-of-suc-le-suc, not-suc-le-zero, suc-mul, add-mul, zero-mul, mul-one, add-zero, add-suc, add-assoc}
@@ -241,3 +241,13 @@ anyTo-some test zero k h e = absurd (not-suc-le-zero h)
 anyTo-some test (suc n) k h e =
     below-suc (λ j. test j ≡ true → (anyTo test n || test n) ≡ true) n (λ j l here. ap (λ t. t || test n) (anyTo-some test n j l here))
     (λ here. ap (λ t. anyTo test n || t) here ∙ or-true (anyTo test n)) k h e
+
+-- a test that passes more, further on
+pub anyTo-rise : (test test' : ℕ → Bool) (n m : ℕ) → n ≤ m → ((k : ℕ) → k < n → test k ≡ true → test' k ≡ true) → anyTo test n ≡ true → anyTo test' m ≡ true
+unfolding anyTo
+anyTo-rise test test' zero m h all e = absurd (false≢true e)
+anyTo-rise test test' (suc n) m h all e = go (test n) refl (anyTo-rise test test' n m (omega arith) (λ k l. all k (omega arith)))
+  where
+    go : (t : Bool) → test n ≡ t → (anyTo test n ≡ true → anyTo test' m ≡ true) → anyTo test' m ≡ true
+    go true q next = anyTo-some test' m n h (all n (omega arith) q)
+    go false q next = next (sym (or-false (anyTo test n)) ∙ ap (λ (t : Bool). anyTo test n || t) (sym q) ∙ e)
