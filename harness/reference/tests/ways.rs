@@ -1,11 +1,11 @@
 //! Change 2: hits, useful blocks and overheads in caches of several ways by hand; `literal` = `fast`, one way = the old figures, hits by
 //! counting the blocks in between; word 15.
 mod common;
-use common::{bytes, with};
+use common::*;
 use oracle::board::*;
 use oracle::generate::*;
 use oracle::literal::*;
-use oracle::{fast, page};
+use oracle::page;
 
 const TWO: Rules = Rules { level: 2 };
 const READ: u32 = 1 << 28;
@@ -28,12 +28,10 @@ fn cached(ways: u32, trace: &[(u32, u32)]) -> Vec<u32> {
 fn seen(ways: u32, trace: &[(u32, u32)]) -> (u32, Vec<usize>, u64) {
     let w = cached(ways, trace);
     let b = check_board(&w, TWO).unwrap();
-    let mut table = vec![Figure::default(); 64];
-    let t = fast::tables(&b, &mut table);
-    assert_eq!(table[1], figure(&b, 2));
+    let m = agree_on_figures(&b);
     let gamma = overhead(&w, 2, 1, TWO).unwrap();
-    assert_eq!(t.gamma[64] as u64, gamma);
-    (table[1].md, useful_points(&b, 2).iter().map(|u| u.len()).collect(), gamma)
+    assert_eq!(m.gamma(2, 1) as u64, gamma);
+    (m.fig[1].md, useful_points(&b, 2).iter().map(|u| u.len()).collect(), gamma)
 }
 
 /// Executes of the blocks with these numbers in set 1.
@@ -88,27 +86,6 @@ fn held_is_not_useful() {
     assert_eq!(seen(2, &fetches(&[0, 1, 2, 3, 0])), (5, vec![0; 5], 0));
 }
 
-/// A load hits if fewer than `ways` other blocks of its set were loaded since the last load of its block.
-fn missed_by_distance(b: &Board, tr: Trace) -> u32 {
-    let (mut loads, mut count): (Vec<u32>, u32) = (vec![], 0);
-    let set = |m: u32| m % b.w[13];
-    for at in tr.start..tr.start + tr.len {
-        let mut load = |m: u32| {
-            let since = loads.iter().rev().take_while(|&&x| x != m).filter(|&&x| set(x) == set(m));
-            let others: std::collections::BTreeSet<u32> = since.copied().collect();
-            count += (!loads.contains(&m) || others.len() >= b.ways()) as u32;
-            loads.push(m);
-        };
-        load(b.fetch(at));
-        match b.kind(at) {
-            Kind::Execute => {}
-            Kind::Read => load(b.data(at)),
-            Kind::Write => count += 1,
-        }
-    }
-    count
-}
-
 /// A board with a cache at level 2.
 fn drawn(r: &mut Rng, k: u32) -> Vec<u32> {
     let (bus, refresh) = (r.range(0, 4), r.range(0, 2));
@@ -123,15 +100,9 @@ fn drawn_boards() {
     for k in 0..400 {
         let w = with_ways(&drawn(&mut r, k), WAYS[k as usize % 5]);
         let b = check_board(&w, TWO).unwrap();
-        let m = Model::new(b);
-        let mut table = vec![Figure::default(); 64];
-        let t = fast::tables(&b, &mut table);
-        assert_eq!(&table[..b.n()], &m.fig[..]);
+        let m = agree_on_figures(&b);
         for i in 1..=b.n() {
-            assert_eq!(table[i - 1].md, b.traces(i).iter().map(|&tr| missed_by_distance(&b, tr)).max().unwrap());
-            for j in 1..=b.n() {
-                assert_eq!(t.gamma[(i - 1) * 64 + j - 1] as u128, m.gamma(i, j));
-            }
+            assert_eq!(m.fig[i - 1].md, b.traces(i).iter().map(|&tr| missed_by_distance(&b, tr)).max().unwrap());
         }
     }
 }

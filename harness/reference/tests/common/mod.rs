@@ -1,9 +1,10 @@
 //! What several tests share; each of them uses a part.
 #![allow(dead_code)]
-use oracle::board::Rules;
+use oracle::board::{Board, Kind, Rules, Trace};
 use oracle::changes::{analyse_in_order, Buffers};
-use oracle::literal::{Answer, Figure};
+use oracle::literal::{Answer, Figure, Model};
 use oracle::{fast, page, plain};
+use std::collections::BTreeSet;
 
 pub fn bytes(w: &[u32]) -> Vec<u8> {
     w.iter().flat_map(|x| x.to_le_bytes()).collect()
@@ -25,6 +26,42 @@ pub fn agree(bytes: &[u8], rules: Rules) -> String {
         assert_eq!(page::page_with(bytes, &mut |w, t, s, f| analyse(w, t, s, f, rules)), page);
     }
     page
+}
+
+/// The figures and overheads of a board, by `literal` and `fast` alike.
+pub fn agree_on_figures<'a>(b: &Board<'a>) -> Model<'a> {
+    let m = Model::new(*b);
+    let mut table = vec![Figure::default(); 64];
+    let t = fast::tables(b, &mut table);
+    assert_eq!(&table[..b.n()], &m.fig[..]);
+    for i in 1..=b.n() {
+        for j in 1..=b.n() {
+            assert_eq!(t.gamma[(i - 1) * 64 + j - 1] as u128, m.gamma(i, j));
+        }
+    }
+    m
+}
+
+/// Bus accesses of a trace on a board with a cache or two: a load hits if fewer than `ways` other blocks of its set were loaded since the last load of
+/// its block.
+pub fn missed_by_distance(b: &Board, tr: Trace) -> u32 {
+    let (mut loads, mut count): (Vec<u32>, u32) = (vec![], 0);
+    let set = |m: u32| if b.memory() == 3 && m >= 32_768 { (1, m % b.w[14]) } else { (0, m % b.w[13]) };
+    for at in tr.start..tr.start + tr.len {
+        let mut load = |m: u32| {
+            let since = loads.iter().rev().take_while(|&&x| x != m).filter(|&&x| set(x) == set(m));
+            let others: BTreeSet<u32> = since.copied().collect();
+            count += (!loads.contains(&m) || others.len() >= b.ways()) as u32;
+            loads.push(m);
+        };
+        load(b.fetch(at));
+        match b.kind(at) {
+            Kind::Execute => {}
+            Kind::Read => load(b.data(at)),
+            Kind::Write => count += 1,
+        }
+    }
+    count
 }
 
 /// The answer of a call with room for 64 tasks, and what it leaves in times and table.
