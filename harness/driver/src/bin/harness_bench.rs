@@ -136,6 +136,15 @@ fn whole(rounds: usize, what: &str, w: &[u32]) -> f64 {
     line(&format!("{what}, {} passes", passes(w)), &analyses(rounds, w))
 }
 
+/// The checks alone: with a task number out of range Overhead makes them and stops.
+fn checks(rounds: usize, what: &str, w: &[u32]) -> f64 {
+    let t = race(
+        rounds,
+        [&mut || keep(library::overhead(black_box(w), 0, 0)), &mut || keep(check_board(black_box(w), RULES).is_ok())],
+    );
+    line(what, &t)
+}
+
 /// The figures of all tasks and the overheads of all pairs: Weigh makes them all for the sum of one task, at times 0. Its checks are taken off.
 fn prepare(rounds: usize, what: &str, w: &[u32]) -> f64 {
     let b = check_board(w, RULES).unwrap();
@@ -171,19 +180,40 @@ fn figure_boards(cores: u32) -> Vec<(String, Vec<u32>)> {
     boards
 }
 
-/// The same in caches of several ways, with the whole Analyse.
-fn several_ways(rounds: usize) {
-    println!("figures and the table of overheads of 64 tasks, caches of several ways: the product, `fast`");
+/// Figures and overheads of these boards with every number of ways, in caches that `place` makes of the one.
+fn figures_in_ways(rounds: usize, place: impl Fn(&[u32]) -> Vec<u32>) {
     for cores in [1, 8] {
         for (what, w) in figure_boards(cores) {
             for ways in [1, 2, 4, 8] {
-                prepare(rounds, &format!("  on {cores} cores, {what}, ways {ways}"), &with_ways(&w, ways));
+                prepare(rounds, &format!("  on {cores} cores, {what}, ways {ways}"), &with_ways(&place(&w), ways));
             }
         }
     }
+}
+
+/// The same in caches of several ways, with the whole Analyse.
+fn several_ways(rounds: usize) {
+    println!("figures and the table of overheads of 64 tasks, caches of several ways: the product, `fast`");
+    figures_in_ways(rounds, |w| w.to_vec());
     println!("whole Analyse, caches of several ways: the product, `plain with tests`, `fast`");
     for ways in [1, 2, 4, 8] {
         whole(rounds, &format!("  largest, bus 2, ways {ways}"), &largest_edge_in_ways(77, 2, 8, ways));
+    }
+}
+
+/// The same traces in two caches, that of the data with as many sets as that of the code, with the checks and the whole Analyse.
+fn two_caches(rounds: usize) {
+    println!("checks, two caches: the product, the reference");
+    let w = largest_edge_in_two_caches(77, 2, 8, 1);
+    checks(rounds, &format!("  {} words, memory 3", w.len()), &w);
+    println!("figures and the table of overheads of 64 tasks, two caches: the product, `fast`");
+    figures_in_ways(rounds, |w| with_data_sets(w, w[13]));
+    println!("whole Analyse, two caches: the product, `plain with tests`, `fast`");
+    for bus in 0..5 {
+        whole(rounds, &format!("  largest, bus {bus}, memory 3, ways 1"), &largest_edge_in_two_caches(77, bus, 8, 1));
+    }
+    for ways in [2, 4, 8] {
+        whole(rounds, &format!("  largest, bus 2, memory 3, ways {ways}"), &largest_edge_in_two_caches(77, 2, 8, ways));
     }
 }
 
@@ -249,12 +279,7 @@ fn main() {
     println!("checks: the product, the reference");
     for memory in 0..3 {
         let w = largest_edge(77, memory, 2, 8, 0);
-        // a task number out of range: Overhead makes its checks and stops
-        let t = race(
-            rounds,
-            [&mut || keep(library::overhead(black_box(&w), 0, 0)), &mut || keep(check_board(black_box(&w), RULES).is_ok())],
-        );
-        line(&format!("  {} words, memory {memory}", w.len()), &t);
+        checks(rounds, &format!("  {} words, memory {memory}", w.len()), &w);
     }
     println!("figures and the table of overheads: the product, `fast`");
     for (n, cores) in [(64, 1), (64, 8)] {
@@ -291,4 +316,5 @@ fn main() {
     in_order(rounds);
     several_ways(rounds);
     put_off(rounds);
+    two_caches(rounds);
 }
