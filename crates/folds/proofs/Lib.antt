@@ -2,6 +2,7 @@
 pub mod Numbers
 pub mod Folds
 pub mod Searches
+pub mod Largest
 pub mod Lists
 pub mod Joined
 pub mod Loops
