@@ -17,9 +17,9 @@ use Rattle.folds.proofs.Numbers.{le-or-lt, below-suc}
 use Rattle.folds.proofs.Folds.{sumTo-mono, sumTo-tight}
 use Rattle.folds.proofs.Lists.{sameList-true, sameList-false}
 use Rattle.folds.proofs.Searches.{First}
-use Rattle.passes.specs.Passes.{System, pass, after, unchanged, ceiling, changes, passesBy, settledBy, Below, Capped}
+use Rattle.passes.specs.Passes.{System, capped, pass, after, unchanged, ceiling, changes, passesBy, settledBy, Below, Capped}
 use Rattle.passes.proofs.Steps.{changes-first}
-use Rattle.passes.proofs.Ascending.{Rising, Closed, Ascending, zeros-rising, zeros-below, caps, caps-closed, caps-capped, below-same, still-pass, still-closed}
+use Rattle.passes.proofs.Ascending.{Rising, Closed, Ascending, getD-pass, zeros-rising, zeros-below, caps, caps-closed, caps-capped, below-same, still-pass, still-closed}
 
 module _ {S : System} {step : List ℕ → List ℕ} (up : Ascending S step) where
   pub after-rising : (p : ℕ) → Rising S (after S step p)
@@ -100,6 +100,10 @@ module _ {S : System} {step : List ℕ → List ℕ} (up : Ascending S step) whe
 
   pub settled-pass : pass S (settledBy S step) ≡ settledBy S step
   settled-pass = still-pass up (settledBy S step) settled-rising settled-fixed
+
+  -- each settled time is its capped sum
+  pub settled-is : (i : ℕ) → i < S .count → getD (settledBy S step) i 0 ≡ capped S (settledBy S step) i
+  settled-is i h = ap (λ (R : List ℕ). getD R i 0) (sym settled-pass) ∙ getD-pass S (settledBy S step) i h
 
   pub settled-closed : Closed S (settledBy S step)
   settled-closed = still-closed S (settledBy S step) settled-pass
