@@ -1,4 +1,4 @@
-// The interference of other cores on the bus, and a task's sum with its parts.
+// The interference of other cores on the bus, and the parts of a task's sum.
 use board::fields::access_cycles;
 use board::fields::refresh_cycles;
 use bus::interference;
@@ -7,9 +7,10 @@ use terms::own::released;
 use terms::refresh::refreshes;
 use terms::rows::work;
 ghost use mathlib.Core.Path.{_≡_};
-ghost use Rattle.sums.specs.Sums.{taskSum};
+ghost use Prim.Native.Nat.{_<_, _^_};
+ghost use Rattle.sums.specs.SixParts.{total};
 ghost use Rattle.sums.specs.Inputs.{SumInput};
-ghost use Rattle.interference.specs.Parts.{sumParts};
+ghost use Rattle.interference.specs.Parts.{sumParts, listed};
 
 mod bus;
 
@@ -53,19 +54,10 @@ pub fn task_parts(
     }
 }
 
-// Sum_i: its parts added up.
-pub fn task_sum(
-    board: &[u32],
-    links: &[u32],
-    pd: &[u32],
-    own: &[u32],
-    all: &[u32],
-    times: &[u32],
-    i: usize,
-) -> u64
-    requires { ⌜ SumInput (now board) (now links) (now pd) (now own) (now all) (now times) i ⌝ }
-    ensures { λ r. ⌜ r ≡ taskSum (now (board .entry)) (now (times .entry)) i ⌝ }
+// The parts added up: of the parts of a sum, that sum.
+pub fn add_parts(parts: SumParts) -> u64
+    requires { ⌜ total (listed parts) < 2 ^ 64 ⌝ }
+    ensures { λ r. ⌜ r ≡ total (listed parts) ⌝ }
 {
-    let parts = task_parts(board, links, pd, own, all, times, i);
     parts.work + parts.higher + parts.own + parts.others + parts.blocking + parts.refresh
 }

@@ -1,10 +1,10 @@
 -- The scratch after each step of its preparation, and what a sum takes from it.
 -- Assumes nothing.
-use Prim.Native.Nat.{ℕ, _+_, _-_, _*_, _≤_, _<_}
+use Prim.Native.Nat.{ℕ, _+_, _-_, _*_, _≤_, _<_, _^_}
 use mathlib.Core.List.{List}
 use mathlib.Core.Bool.{true}
 use mathlib.Core.Path.{_≡_, refl, sym, ap, ap₂, subst, _∙_}
-use native.Mathlib.Nat.{add-comm}
+use native.Mathlib.Nat.{add-comm, lt-of-le-of-lt, le-of-eq}
 use native.Mathlib.Omega.{arith}
 use lib.ListN.{length, getD, take, drop, length-drop}
 use lib.Seq.{length-take-le, getD-take, getD-drop}
@@ -18,6 +18,11 @@ use Rattle.figures.proofs.Bounds.{taskMD-bound, γ-bound}
 use Rattle.sums.specs.Sums.{memoryDemand}
 use Rattle.sums.specs.Chains.{Linked}
 use Rattle.sums.specs.Inputs.{Holds, CappedTimes, SumInput}
+use Rattle.sums.specs.SixParts.{total}
+use Rattle.sums.proofs.Bounds.{taskSum-bound}
+use Rattle.interference.specs.declared.SumParts.{SumParts}
+use Rattle.interference.specs.Parts.{sumParts, listed}
+use Rattle.interference.proofs.Parts.{sumParts-add}
 use Rattle.folds.specs.Stored.{Stored}
 use Rattle.scratch.specs.Scratch.{Passable, Room, withMD, Addable, Added, Prepared}
 
@@ -132,3 +137,8 @@ module _ {b : List ℕ} {n : ℕ} {w : List ℕ} (ready : Prepared b n w) where
             (row-holds (n - 1) all (omega arith) (last .0) (last .1));
         times = times;
       }
+
+  -- and the parts of such a sum stay below 2^64 together
+  pub parts-fit : {R : List ℕ} {i : ℕ} {p : SumParts} → CappedTimes b R → i < n → p ≡ sumParts b R i → total (listed p) < 2 ^ 64
+  parts-fit {R} {i} times task e =
+      lt-of-le-of-lt (le-of-eq (sumParts-add b R i e)) (taskSum-bound b R (ready .room .sound) times i (rw (← ready .room .tasks) task))

@@ -1,7 +1,9 @@
-// The word scratch: the figures of every task, laid out for the passes, and a task's sum from them.
+// The word scratch: the figures of every task, laid out for the passes, and a task's sum and its parts from them.
 use chains::CHAIN_WORDS;
 use figures::ECB_WORDS;
 use figures::row::place;
+use interference::SumParts;
+use interference::add_parts;
 ghost use mathlib.Core.Path.{_≡_};
 ghost use Prim.Native.Nat.{_<_};
 ghost use lib.ListN.{length};
@@ -9,6 +11,7 @@ ghost use Rattle.figures.specs.Survey.{Held};
 ghost use Rattle.sums.specs.Sums.{taskSum};
 ghost use Rattle.sums.specs.Chains.{Linked};
 ghost use Rattle.sums.specs.Inputs.{CappedTimes};
+ghost use Rattle.interference.specs.Parts.{sumParts};
 ghost use Rattle.folds.specs.Stored.{Stored};
 ghost use Rattle.scratch.specs.Scratch.{Room, RowAddable, withMD, Addable, Added, Prepared};
 
@@ -55,12 +58,20 @@ pub fn sum_of(board: &[u32], n: usize, scratch: &[u32], times: &[u32], i: usize)
     requires { ⌜ (Prepared (now board) n (now scratch)) × (CappedTimes (now board) (now times)) × (i < n) ⌝ }
     ensures { λ r. ⌜ r ≡ taskSum (now (board .entry)) (now (times .entry)) i ⌝ }
 {
-    let mut links = [0u32; CHAIN_WORDS];
-    chains::make(board, n, &mut links);
-    sum_along(board, n, &links, scratch, times, i)
+    add_parts(parts_of(board, n, scratch, times, i))
 }
 
-// The same along chains that are made already: for callers that sum many tasks.
+// Its six parts.
+pub fn parts_of(board: &[u32], n: usize, scratch: &[u32], times: &[u32], i: usize) -> SumParts
+    requires { ⌜ (Prepared (now board) n (now scratch)) × (CappedTimes (now board) (now times)) × (i < n) ⌝ }
+    ensures { λ r. ⌜ r ≡ sumParts (now (board .entry)) (now (times .entry)) i ⌝ }
+{
+    let mut links = [0u32; CHAIN_WORDS];
+    chains::make(board, n, &mut links);
+    parts_along(board, n, &links, scratch, times, i)
+}
+
+// The sum along chains that are made already: for callers that sum many tasks.
 pub fn sum_along(
     board: &[u32],
     n: usize,
@@ -72,9 +83,24 @@ pub fn sum_along(
     requires { ⌜ (Prepared (now board) n (now scratch)) × (CappedTimes (now board) (now times)) × (i < n) × Linked (now board) (now links) ⌝ }
     ensures { λ r. ⌜ r ≡ taskSum (now (board .entry)) (now (times .entry)) i ⌝ }
 {
+    add_parts(parts_along(board, n, links, scratch, times, i))
+}
+
+// The parts along such chains.
+fn parts_along(
+    board: &[u32],
+    n: usize,
+    links: &[u32],
+    scratch: &[u32],
+    times: &[u32],
+    i: usize,
+) -> SumParts
+    requires { ⌜ (Prepared (now board) n (now scratch)) × (CappedTimes (now board) (now times)) × (i < n) × Linked (now board) (now links) ⌝ }
+    ensures { λ r. ⌜ r ≡ sumParts (now (board .entry)) (now (times .entry)) i ⌝ }
+{
     let own = place(n, i);
     let all = place(n, n - 1);
-    interference::task_sum(
+    interference::task_parts(
         board,
         links,
         &scratch[2 * n..3 * n],

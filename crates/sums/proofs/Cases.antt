@@ -1,14 +1,17 @@
--- The sums of K1 to K8 at their settled times, and of K8 with refreshes put off, by computation: each is its time.
+-- The sums of K1 to K8 at their settled times, and of K8 with refreshes put off, by computation: each is its time. How some of them are made up, with each of the six
+-- parts as the reason once, and equal ones.
 -- Assumes nothing.
-use Prim.Native.Nat.{ℕ}
+use Prim.Native.Nat.{ℕ, _*_}
 use mathlib.Core.List.{List, [], _∷_}
 use mathlib.Core.Path.{_≡_, refl}
-use Rattle.folds.specs.Folds.{ceilDiv, sumTo, maxTo, countTo}
+use lib.ListN.{set}
+use Rattle.folds.specs.Folds.{ceilDiv, sumTo, maxTo, countTo, anyTo, firstFrom, firstLargest}
 use Rattle.board.specs.Layout.{firstTrace, firstInstruction}
-use Rattle.trace.specs.Traces.{traceOf, loads, tracePD, busLoads, traceMD}
-use Rattle.figures.specs.Figures.{taskPD, taskMD}
-use Rattle.figures.specs.Overhead.{γ}
+use Rattle.trace.specs.Traces.{traceOf, loads, tracePD, busLoads, traceMD, evicts, useful, usefulAt, mostUseful}
+use Rattle.figures.specs.Figures.{taskPD, taskMD, evicting}
+use Rattle.figures.specs.Overhead.{evictedBy, reloads, γ}
 use Rattle.sums.specs.Sums.{memoryDemand, ownAccesses, carryIn, coreAccesses, lowerAccesses, interference, busAccesses, refreshes, higherWork, taskSum}
+use Rattle.sums.specs.SixParts.{sixParts, reason}
 use Rattle.sums.specs.Cases.{K1, K2, K6, K7, K8, K8-putOff}
 
 -- at these two times each sum is its time
@@ -27,3 +30,30 @@ pub cases :
     × Stands (K8-putOff 8) 61 44
 unfolding ceilDiv sumTo maxTo countTo firstTrace firstInstruction traceOf loads tracePD busLoads traceMD taskPD taskMD γ memoryDemand ownAccesses carryIn coreAccesses lowerAccesses interference busAccesses refreshes higherWork taskSum
 cases = ((refl, refl), (refl, refl), (refl, refl), (refl, refl), (refl, refl), (refl, refl), (refl, refl), (refl, refl), (refl, refl))
+
+-- task i at these two times: the six parts, and the reason
+abbrev Made : List ℕ → ℕ → ℕ → ℕ → List ℕ → ℕ → Type 0
+Made b time1 time2 i parts k = (sixParts b (time1 ∷ time2 ∷ []) i ≡ parts) × (reason parts ≡ k)
+
+-- K1 where the first instruction takes so many cycles more
+abbrev longer : ℕ → List ℕ
+longer Δ = set K1 35 (Δ * 65536)
+
+-- the same with both tasks on one core
+abbrev oneCore : ℕ → List ℕ
+oneCore Δ = set (longer Δ) 25 1
+
+pub made :
+    Made K1 35 29 0 (5 ∷ 0 ∷ 15 ∷ 10 ∷ 5 ∷ 0 ∷ []) 3
+    × Made K1 35 29 1 (4 ∷ 0 ∷ 10 ∷ 10 ∷ 5 ∷ 0 ∷ []) 3
+    × Made K2 40 29 0 (5 ∷ 0 ∷ 15 ∷ 15 ∷ 5 ∷ 0 ∷ []) 3
+    × Made (K6 2) 35 34 1 (4 ∷ 0 ∷ 10 ∷ 15 ∷ 5 ∷ 0 ∷ []) 4
+    × Made K8 49 35 0 (5 ∷ 0 ∷ 15 ∷ 15 ∷ 5 ∷ 9 ∷ []) 3
+    × Made K8 49 35 1 (4 ∷ 0 ∷ 10 ∷ 10 ∷ 5 ∷ 6 ∷ []) 3
+    × Made (K8-putOff 8) 61 44 0 (5 ∷ 0 ∷ 15 ∷ 15 ∷ 5 ∷ 21 ∷ []) 6
+    × Made (longer 20) 58 29 0 (23 ∷ 0 ∷ 15 ∷ 15 ∷ 5 ∷ 0 ∷ []) 1
+    × Made (oneCore 30) 10 50 1 (4 ∷ 33 ∷ 25 ∷ 0 ∷ 5 ∷ 0 ∷ []) 2
+    × Made K1 0 0 0 (5 ∷ 0 ∷ 0 ∷ 0 ∷ 5 ∷ 0 ∷ []) 1
+    × Made K1 0 0 1 (4 ∷ 0 ∷ 0 ∷ 0 ∷ 5 ∷ 0 ∷ []) 5
+unfolding ceilDiv sumTo maxTo countTo anyTo firstFrom firstLargest firstTrace firstInstruction traceOf loads tracePD busLoads traceMD evicts useful usefulAt mostUseful taskPD taskMD evicting evictedBy reloads γ memoryDemand ownAccesses carryIn coreAccesses lowerAccesses interference busAccesses refreshes higherWork sixParts reason
+made = ((refl, refl), (refl, refl), (refl, refl), (refl, refl), (refl, refl), (refl, refl), (refl, refl), (refl, refl), (refl, refl), (refl, refl), (refl, refl))

@@ -1,5 +1,6 @@
 -- A task's sum.
 pub mod Sums
+pub mod SixParts
 pub mod Plain
 pub mod Limits
 pub mod Chains
