@@ -3,7 +3,7 @@
 use Prim.Native.Nat.{ℕ, _+_, _≤_, _<_, zero-le}
 use mathlib.Core.Bool.{true, not, false≢true}
 use mathlib.Core.List.{List}
-use mathlib.Core.Path.{_≡_, sym, _∙_}
+use mathlib.Core.Path.{_≡_, sym, ap, _∙_}
 use lib.Dec.{leb, eqb}
 use lib.ListN.{length, getD}
 use borrow.Author.Tests.{leb-true, eqb-true, eq-eqb, not-true}
@@ -14,12 +14,13 @@ use Rattle.board.specs.Layout.{tasks, scratchWords}
 use Rattle.board.specs.Sound.{Between}
 use Rattle.ranges.specs.Ranges.{within}
 use Rattle.refusals.specs.Refusals.{refuseUnless, refuseFirst, _orElse_, refusalOf}
+use Rattle.refusals.specs.declared.Verdict.{Verdict}
 use Rattle.refusals.specs.declared.Verdict.the-variants.{Passed}
 use Rattle.refusals.proofs.Verdicts.{orElse-passed, refuseUnless-passed}
 use Rattle.refusals.proofs.Sound.{sound, within-true, refuseFirst-passed}
 use Rattle.sums.specs.Sums.{bound}
-use Rattle.checks.specs.Refusals.{taskRow, timesRow, scratchRow, tableRow, timeOk, timeRow, namedBefore, numberOk, orderRow, figuresRefusal, overheadRefusal, weighRefusal, analyseRefusal, inOrderRefusal}
-use Rattle.checks.specs.Accepted.{FiguresTaken, OverheadTaken, WeighTaken, AnalyseTaken, InOrderTaken}
+use Rattle.checks.specs.Refusals.{taskRow, timesRow, scratchRow, tableRow, timeOk, timeRow, namedBefore, numberOk, orderRow, figuresRefusal, overheadRefusal, weighRefusal, analyseRefusal, inOrderRefusal, makeUpRefusal}
+use Rattle.checks.specs.Accepted.{FiguresTaken, OverheadTaken, WeighTaken, AnalyseTaken, InOrderTaken, MakeUpTaken}
 use Rattle.checks.proofs.Checks.{orElse-assoc}
 
 -- a list that passes row 16
@@ -101,3 +102,17 @@ module _ (b : List ℕ) where
   in-order-taken times scratch room order e =
       let rows = orElse-passed (analyseRefusal b times scratch room) (orderRow n order) (sym (inOrderRefusal-is times scratch room order) ∙ e) in
       record { analyse = analyse-taken times scratch room (rows .0); permuted = order-taken n order (rows .1) }
+
+  -- Analyse would not be refused either, and the number is a task's
+  pub make-up-passed : (times scratch room i : ℕ) → makeUpRefusal b times scratch room i ≡ Passed → (analyseRefusal b times scratch room ≡ Passed) × Between 1 n i
+  unfolding makeUpRefusal analyseRefusal
+  make-up-passed times scratch room i e =
+      let buffers = timesRow n times orElse scratchRow n scratch orElse tableRow n room in
+      let rows = orElse-passed (refusalOf b) (taskRow n i orElse buffers) e in
+      let rest = orElse-passed (taskRow n i) buffers (rows .1) in
+      (ap (λ (v : Verdict). v orElse buffers) (rows .0) ∙ rest .1, row10 i (rest .0))
+
+  pub make-up-taken : (times scratch room i : ℕ) → makeUpRefusal b times scratch room i ≡ Passed → MakeUpTaken b times scratch room i
+  make-up-taken times scratch room i e =
+      let passed = make-up-passed times scratch room i e in
+      record { analyse = analyse-taken times scratch room (passed .0); task = passed .1 }

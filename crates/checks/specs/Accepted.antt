@@ -46,3 +46,8 @@ pub record AnalyseTaken (b : List ℕ) (times scratch room : ℕ) : Type 0 where
 pub record InOrderTaken (b : List ℕ) (times scratch room : ℕ) (order : List ℕ) : Type 0 where
   pub analyse : AnalyseTaken b times scratch room
   pub permuted : Permutation (at.tasks b) order
+
+-- and the task is one of the board's
+pub record MakeUpTaken (b : List ℕ) (times scratch room i : ℕ) : Type 0 where
+  pub analyse : AnalyseTaken b times scratch room
+  pub task : Between 1 (at.tasks b) i

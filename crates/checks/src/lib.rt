@@ -12,7 +12,7 @@ use rows::task_row;
 use rows::time_row;
 use rows::times_row;
 ghost use mathlib.Core.Path.{_≡_};
-ghost use Rattle.checks.specs.Refusals.{figuresRefusal, overheadRefusal, weighRefusal, analyseRefusal, inOrderRefusal};
+ghost use Rattle.checks.specs.Refusals.{figuresRefusal, overheadRefusal, weighRefusal, analyseRefusal, inOrderRefusal, makeUpRefusal};
 
 // What `figures` checks, its table being of this many records.
 pub fn check_figures(board: &[u32], room: usize) -> Verdict
@@ -84,6 +84,30 @@ pub fn check_in_order<'a>(
         or_else(
             times_row(n, times),
             or_else(scratch_row(n, scratch), or_else(table, listed)),
+        ),
+    )
+}
+
+// What `make_up` checks, its buffers being of these lengths.
+pub fn check_make_up(
+    board: &[u32],
+    times: usize,
+    scratch: usize,
+    room: usize,
+    task: usize,
+) -> Verdict
+    ensures { λ r. ⌜ r ≡ makeUpRefusal (now (board .entry)) times scratch room task ⌝ }
+{
+    let c = board_rows(board);
+    let n = c.tasks;
+    let v = c.verdict;
+    let number = task_row(n, task);
+    let table = table_row(n, room);
+    or_else(
+        v,
+        or_else(
+            number,
+            or_else(times_row(n, times), or_else(scratch_row(n, scratch), table)),
         ),
     )
 }
