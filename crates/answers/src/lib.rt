@@ -1,6 +1,8 @@
 // What the calls answer.
 pub mod taken;
 
+use interference::SumParts;
+
 // What `analyse` answers: the passes; the late task and the passes; the limit spent; the number of the refusal and its place.
 pub enum Answer {
     Times(u32),
@@ -12,5 +14,12 @@ pub enum Answer {
 // What the other calls answer: the records filled, the overhead or the sum; the number of the refusal and its place.
 pub enum Outcome {
     Value(u64),
+    Refused(usize, usize),
+}
+
+// What `make_up` answers: the six parts of the task's sum and the number, 1 to 6, of the largest; the limit spent; the number of the refusal and its place.
+pub enum MadeUp {
+    Parts(SumParts, u32),
+    Spent,
     Refused(usize, usize),
 }

@@ -5,7 +5,7 @@
 use Prim.Native.Nat.{ℕ, _+_, _≤_, _<_}
 use mathlib.Core.Bool.{Bool, true, false, cond}
 use mathlib.Core.List.{List}
-use mathlib.Core.Path.{_≡_, refl, sym, subst, _∙_}
+use mathlib.Core.Path.{_≡_, refl, sym, ap, subst, _∙_}
 use native.Mathlib.Omega.{arith}
 use lib.Dec.{ltb}
 use lib.ListN.{length, getD, take}
@@ -14,6 +14,7 @@ use borrow.Author.Tests.{ltb-true, ltb-false}
 use Rattle.folds.specs.Folds.{fillTo}
 use Rattle.folds.proofs.Lists.{length-fillTo, fillTo-below}
 use Rattle.board.specs.Layout.{tasks, passLimit}
+use Rattle.refusals.specs.declared.Verdict.{Verdict}
 use Rattle.refusals.specs.declared.Verdict.the-variants.{Passed}
 use Rattle.passes.specs.Passes.{System, pass, passesBy, settledBy, settled, firstLate, SmallestLate}
 use Rattle.passes.proofs.Ascending.{Ascending}
@@ -25,7 +26,7 @@ use Rattle.checks.proofs.Accepted.{analyse-taken}
 use Rattle.answers.specs.declared.Answer.{Answer}
 use Rattle.answers.specs.declared.Answer.the-variants.{Times, Late, Spent}
 use Rattle.answers.specs.Refusals.{analyseRefusal}
-use Rattle.answers.specs.Answers.{system, settledAnswer, analyseAnswer, timesLeft, timesAfter}
+use Rattle.answers.specs.Answers.{system, settledAnswer, answerBy, analyseAnswer, timesLeft, timesAfter}
 use Rattle.calls.specs.Demand.{Demand3By, Demand3}
 
 module _ {S : System} {step : List ℕ → List ℕ} (up : Ascending S step) where
@@ -105,6 +106,11 @@ module _ (b old : List ℕ) (scratch table : ℕ) where
   -- the times buffer of a call that is not refused
   pub times-room : analyseRefusal b (length old) scratch table ≡ Passed → tasks b ≤ length old
   times-room passed = analyse-taken b (length old) scratch table passed .analysable .timesRoom
+
+  -- its answer, by its passes
+  pub analyse-settled : analyseRefusal b (length old) scratch table ≡ Passed → analyseAnswer b (length old) scratch table ≡ settledAnswer (system b) (pass (system b)) (passLimit b)
+  unfolding analyseAnswer
+  analyse-settled passed = ap (λ (v : Verdict). answerBy v b) passed
 
   -- demand 3 of Analyse: of every call that is not refused, and of any value and buffer that equal its own
   pub demand3-met : analyseRefusal b (length old) scratch table ≡ Passed → (r : Answer) (new : List ℕ) → r ≡ analyseAnswer b (length old) scratch table → new ≡ timesAfter b r old

@@ -3,7 +3,7 @@
 use Prim.Native.Nat.{ℕ, _+_, _≤_}
 use mathlib.Core.Bool.{Bool, true, false, cond}
 use mathlib.Core.List.{List}
-use mathlib.Core.Path.{_≡_, refl, sym, ap, _∙_}
+use mathlib.Core.Path.{_≡_, refl, sym, _∙_}
 use native.Mathlib.Omega.{arith}
 use lib.Dec.{ltb}
 use lib.ListN.{length}
@@ -20,11 +20,11 @@ use Rattle.checks.proofs.Accepted.{inOrderRefusal-is, in-order-taken}
 use Rattle.answers.specs.declared.Answer.{Answer}
 use Rattle.answers.specs.declared.Answer.the-variants.{Times, Late, Spent}
 use Rattle.answers.specs.Refusals.{analyseRefusal, inOrderRefusal}
-use Rattle.answers.specs.Answers.{system, settledAnswer, answerBy, analyseAnswer, inOrderAnswer, timesAfter}
+use Rattle.answers.specs.Answers.{system, settledAnswer, analyseAnswer, inOrderAnswer, timesAfter}
 use Rattle.order_work.proofs.SameTimes.{times-same}
 use Rattle.calls.specs.Demand.{Demand3By}
 use Rattle.calls.specs.InOrder.{withPasses, LikeAnalyse}
-use Rattle.calls.proofs.Demand.{settled-demand3}
+use Rattle.calls.proofs.Demand.{settled-demand3, analyse-settled}
 
 module _ (S : System) (mono : Monotone S) {order : List ℕ} (permuted : Permutation (S .count) order) where
   -- within Analyse's passes: its answer, but for the passes
@@ -63,8 +63,7 @@ module _ (b old : List ℕ) (scratch table : ℕ) (order : List ℕ) (passed : i
       orElse-passed (analyseRefusal b (length old) scratch table) (orderRow (tasks b) order) (sym (inOrderRefusal-is b (length old) scratch table order) ∙ passed) .0
 
   analyse-is : analyseAnswer b (length old) scratch table ≡ settledAnswer (system b) (pass (system b)) (passLimit b)
-  unfolding analyseAnswer
-  analyse-is = ap (λ v. answerBy v b) analysed
+  analyse-is = analyse-settled b old scratch table analysed
 
   pub in-order-demand3 : (new : List ℕ) → new ≡ timesAfter b r old → Demand3By (system b) (inOrder (system b) order) (passLimit b) r new
   unfolding inOrderAnswer

@@ -1,20 +1,25 @@
-// The public calls: figures, overhead, weigh, analyse, and its sibling analyse_in_order. The types of their answers and of the table are passed on, so that a caller
-// imports them from here.
+// The public calls: figures, overhead, weigh, analyse, its sibling analyse_in_order, and make_up. The types of their answers and of the table are passed on, so that a
+// caller imports them from here.
 pub use answers::Answer;
+pub use answers::MadeUp;
 pub use answers::Outcome;
 use board::MOST_TASKS;
 use figures::ECB_WORDS;
 pub use figures::Figure;
+pub use interference::SumParts;
 use refusals::Verdict;
 ghost use mathlib.Core.Path.{_≡_};
+ghost use Prim.Native.Nat.{_-_};
 ghost use lib.ListN.{length};
 ghost use Rattle.board.specs.Layout.{mostTasks, passLimit};
 ghost use Rattle.refusals.specs.declared.Verdict.the-variants.{Passed};
 ghost use Rattle.passes.specs.Visits.{inOrder};
-ghost use Rattle.answers.specs.Refusals.{figuresRefusal, analyseRefusal, inOrderRefusal};
-ghost use Rattle.answers.specs.Answers.{system, figuresAnswer, overheadAnswer, weighAnswer, analyseAnswer, inOrderAnswer, timesAfter, tableAfter, ScratchAfter};
+ghost use Rattle.answers.specs.Refusals.{figuresRefusal, analyseRefusal, inOrderRefusal, makeUpRefusal};
+ghost use Rattle.answers.specs.Answers.{system, figuresAnswer, overheadAnswer, weighAnswer, analyseAnswer, inOrderAnswer, answerBy, timesAfter, tableAfter, ScratchAfter};
+ghost use Rattle.answers.specs.MakeUp.{makeUpAnswer};
 ghost use Rattle.calls.specs.Demand.{Demand3, Demand3By};
 ghost use Rattle.calls.specs.InOrder.{LikeAnalyse};
+ghost use Rattle.calls.specs.MakeUp.{MadeUpOf};
 
 // The response times of a board. Unless refused, the table is filled as `figures` fills it, and the scratch ends with free contents.
 pub fn analyse(
@@ -95,6 +100,46 @@ pub fn analyse_in_order<'a>(
     answer
 }
 
+// How the time of a task, a number from 1, is made up at the settled times: the six parts of its sum, and the number of the largest. The buffers are those of
+// `analyse`, and are left as it leaves them.
+pub fn make_up(
+    board: &[u32],
+    times: &mut [u32],
+    scratch: &mut [u32],
+    table: &mut [Figure],
+    task: usize,
+) -> MadeUp
+    ensures answer { λ r. ⌜ r ≡ makeUpAnswer (now (board .entry))
+        (length (now (times .entry))) (length (now (scratch .entry))) (length (now (table .entry))) task ⌝ }
+    ensures times { λ _. ⌜ now (times .exit) ≡ timesAfter (now (board .entry)) (answerBy (makeUpRefusal (now (board .entry))
+        (length (now (times .entry))) (length (now (scratch .entry))) (length (now (table .entry))) task) (now (board .entry))) (now (times .entry)) ⌝ }
+    ensures table { λ _. ⌜ now (table .exit) ≡ tableAfter (now (board .entry)) (makeUpRefusal (now (board .entry))
+        (length (now (times .entry))) (length (now (scratch .entry))) (length (now (table .entry))) task) (now (table .entry)) ⌝ }
+    ensures scratch { λ _. ⌜ ScratchAfter (makeUpRefusal (now (board .entry))
+        (length (now (times .entry))) (length (now (scratch .entry))) (length (now (table .entry))) task)
+        (now (scratch .entry)) (now (scratch .exit)) ⌝ }
+    ensures parts { λ r. ⌜ (makeUpRefusal (now (board .entry))
+        (length (now (times .entry))) (length (now (scratch .entry))) (length (now (table .entry))) task ≡ Passed
+        → MadeUpOf (now (board .entry)) (length (now (times .entry))) (length (now (scratch .entry))) (length (now (table .entry)))
+        (task - 1) r (now (times .exit))) ⌝ }
+{
+    let mut n: usize = 0;
+    let mut words = [0u32; 256];
+    let mut sets = [0u64; ECB_WORDS];
+    let made = make_up_work::make_up(
+        board,
+        times,
+        scratch,
+        table.len(),
+        &mut n,
+        &mut words,
+        &mut sets,
+        task,
+    );
+    table::fill(board, n, &words, &sets, table);
+    made
+}
+
 // `analyse` for callers that want no figures, as the program: it answers as with a table of 64 records, and meets demand 3 as `analyse` does.
 pub fn analyse_alone(board: &[u32], times: &mut [u32], scratch: &mut [u32]) -> Answer
     ensures answer { λ r. ⌜ r ≡ analyseAnswer (now (board .entry)) (length (now (times .entry))) (length (now (scratch .entry))) mostTasks ⌝ }
@@ -116,6 +161,32 @@ pub fn analyse_alone(board: &[u32], times: &mut [u32], scratch: &mut [u32]) -> A
         &mut n,
         &mut words,
         &mut sets,
+    )
+}
+
+// `make_up` for callers that want no figures, as the program: it answers as with a table of 64 records.
+pub fn make_up_alone(board: &[u32], times: &mut [u32], scratch: &mut [u32], task: usize) -> MadeUp
+    ensures answer { λ r. ⌜ r ≡ makeUpAnswer (now (board .entry)) (length (now (times .entry))) (length (now (scratch .entry))) mostTasks task ⌝ }
+    ensures times { λ _. ⌜ now (times .exit) ≡ timesAfter (now (board .entry)) (answerBy (makeUpRefusal
+        (now (board .entry)) (length (now (times .entry))) (length (now (scratch .entry))) mostTasks task) (now (board .entry))) (now (times .entry)) ⌝ }
+    ensures scratch { λ _. ⌜ ScratchAfter
+        (makeUpRefusal (now (board .entry)) (length (now (times .entry))) (length (now (scratch .entry))) mostTasks task)
+        (now (scratch .entry)) (now (scratch .exit)) ⌝ }
+    ensures parts { λ r. ⌜ (makeUpRefusal (now (board .entry)) (length (now (times .entry))) (length (now (scratch .entry))) mostTasks task ≡ Passed
+        → MadeUpOf (now (board .entry)) (length (now (times .entry))) (length (now (scratch .entry))) mostTasks (task - 1) r (now (times .exit))) ⌝ }
+{
+    let mut n: usize = 0;
+    let mut words = [0u32; 256];
+    let mut sets = [0u64; ECB_WORDS];
+    make_up_work::make_up(
+        board,
+        times,
+        scratch,
+        MOST_TASKS,
+        &mut n,
+        &mut words,
+        &mut sets,
+        task,
     )
 }
 

@@ -1,0 +1,2 @@
+-- What `make_up` does but for its table.
+pub mod MadeUp
