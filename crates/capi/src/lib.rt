@@ -1,20 +1,24 @@
 // The calls for C and Rust, on numbers and word slices; include/zuzgravel.h declares them. Each takes every input, returns a code, and
 // puts the two numbers of its answer into the two words of `answer`, also where it refuses. In C the array is one pointer, with no length.
 use figures::ECB_WORDS;
+use replies::parts::of_made_up;
 use replies::reply::of_answer;
 use replies::reply::of_outcome;
 use replies::table::RECORD_WORDS;
 use replies::table::fill_words;
 ghost use mathlib.Core.Path.{_≡_};
+ghost use Prim.Native.Nat.{_-_};
 ghost use lib.ListN.{length};
 ghost use Rattle.board.specs.Layout.{passLimit};
 ghost use Rattle.refusals.specs.declared.Verdict.the-variants.{Passed};
 ghost use Rattle.passes.specs.Visits.{inOrder};
-ghost use Rattle.answers.specs.Refusals.{figuresRefusal, analyseRefusal, inOrderRefusal};
-ghost use Rattle.answers.specs.Answers.{system, figuresAnswer, overheadAnswer, weighAnswer, analyseAnswer, inOrderAnswer, timesAfter, ScratchAfter};
+ghost use Rattle.answers.specs.Refusals.{figuresRefusal, analyseRefusal, inOrderRefusal, makeUpRefusal};
+ghost use Rattle.answers.specs.Answers.{system, figuresAnswer, overheadAnswer, weighAnswer, analyseAnswer, inOrderAnswer, answerBy, timesAfter, ScratchAfter};
+ghost use Rattle.answers.specs.MakeUp.{makeUpAnswer};
 ghost use Rattle.calls.specs.Demand.{Demand3, Demand3By};
 ghost use Rattle.calls.specs.InOrder.{LikeAnalyse};
-ghost use Rattle.replies.specs.Replies.{outcomeCode, outcomeWords, answerCode, answerWords};
+ghost use Rattle.calls.specs.MakeUp.{MadeUpOf};
+ghost use Rattle.replies.specs.Replies.{outcomeCode, outcomeWords, answerCode, answerWords, madeUpCode, madeUpWords, partsAfter};
 ghost use Rattle.replies.specs.Records.{recordRoom, recordsAfter};
 
 // Figures: the records of the tasks as words, RECORD_WORDS a record; the value is their number.
@@ -158,4 +162,55 @@ pub extern "C" fn zuzgravel_analyse_in_order<'a>(
     );
     fill_words(board, n, &words, &sets, records);
     of_answer(found, answer)
+}
+
+// How a time is made up: the six parts of the sum of a task, a number from 1, into `parts`, and the number of the largest as the value; buffers as those of
+// `zuzgravel_analyse`.
+#[no_mangle]
+pub extern "C" fn zuzgravel_make_up(
+    board: &[u32],
+    times: &mut [u32],
+    scratch: &mut [u32],
+    records: &mut [u32],
+    task: usize,
+    parts: &mut [u64; 6],
+    answer: &mut [u64; 2],
+) -> u32
+    ensures code { λ r. ⌜ r ≡ madeUpCode (makeUpAnswer (now (board .entry))
+        (length (now (times .entry))) (length (now (scratch .entry))) (recordRoom (now (records .entry))) task) ⌝ }
+    ensures answer { λ _. ⌜ now (answer .exit) ≡ madeUpWords (makeUpAnswer (now (board .entry))
+        (length (now (times .entry))) (length (now (scratch .entry))) (recordRoom (now (records .entry))) task) ⌝ }
+    ensures parts { λ _. ⌜ now (parts .exit) ≡ partsAfter (makeUpAnswer (now (board .entry))
+        (length (now (times .entry))) (length (now (scratch .entry))) (recordRoom (now (records .entry))) task) (now (parts .entry)) ⌝ }
+    ensures times { λ _. ⌜ now (times .exit) ≡ timesAfter (now (board .entry)) (answerBy (makeUpRefusal (now (board .entry))
+        (length (now (times .entry))) (length (now (scratch .entry))) (recordRoom (now (records .entry))) task) (now (board .entry)))
+        (now (times .entry)) ⌝ }
+    ensures records { λ _. ⌜ now (records .exit) ≡ recordsAfter (now (board .entry)) (makeUpRefusal (now (board .entry))
+        (length (now (times .entry))) (length (now (scratch .entry))) (recordRoom (now (records .entry))) task) (now (records .entry)) ⌝ }
+    ensures scratch { λ _. ⌜ ScratchAfter (makeUpRefusal (now (board .entry))
+        (length (now (times .entry))) (length (now (scratch .entry))) (recordRoom (now (records .entry))) task)
+        (now (scratch .entry)) (now (scratch .exit)) ⌝ }
+    ensures made { λ _. ⌜ (makeUpRefusal (now (board .entry))
+        (length (now (times .entry))) (length (now (scratch .entry))) (recordRoom (now (records .entry))) task ≡ Passed
+        → MadeUpOf (now (board .entry)) (length (now (times .entry))) (length (now (scratch .entry))) (recordRoom (now (records .entry)))
+        (task - 1) (makeUpAnswer (now (board .entry))
+        (length (now (times .entry))) (length (now (scratch .entry))) (recordRoom (now (records .entry))) task)
+        (now (times .exit))) ⌝ }
+{
+    let mut n: usize = 0;
+    let mut words = [0u32; 256];
+    let mut sets = [0u64; ECB_WORDS];
+    let room = records.len() / RECORD_WORDS;
+    let made = make_up_work::make_up(
+        board,
+        times,
+        scratch,
+        room,
+        &mut n,
+        &mut words,
+        &mut sets,
+        task,
+    );
+    fill_words(board, n, &words, &sets, records);
+    of_made_up(made, parts, answer)
 }

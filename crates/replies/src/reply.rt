@@ -28,7 +28,7 @@ pub fn of_answer(answer: Answer, words: &mut [u64; 2]) -> u32
 }
 
 // The code, with the two numbers in the words.
-fn give(code: u32, first: u64, second: u64, words: &mut [u64; 2]) -> u32
+pub fn give(code: u32, first: u64, second: u64, words: &mut [u64; 2]) -> u32
     ensures { λ r. ⌜ (r ≡ code) × (now (words .exit) ≡ first ∷ second ∷ []) ⌝ }
 {
     *words = [first, second];
