@@ -1,41 +1,14 @@
--- Lines put into a buffer field by field.
+-- The line of a task.
 -- Assumes nothing.
-use Prim.Native.Nat.{ℕ, _+_, _≤_}
-use mathlib.Core.List.{List, [], _∷_, _++_, append-assoc}
+use Prim.Native.Nat.{ℕ, _+_}
+use mathlib.Core.List.{List, [], _∷_}
 use mathlib.Core.Path.{_≡_}
-use lib.ListN.{length, getD}
-use Rattle.folds.specs.Folds.{joinTo}
-use Rattle.folds.proofs.Joined.{joinTo-none, joinTo-next}
+use lib.ListN.{getD}
 use Rattle.board.specs.Layout.{core, deadline}
 use Rattle.text.specs.Text.{decimal, line}
-use Rattle.text.specs.Buffer.{Put}
 use Rattle.answer_page.specs.AnswerPage.{taskLine}
-use Rattle.text.proofs.Buffer.{put-none, put-same, put-then}
-
-line-more : (field next : List ℕ) (rest : List (List ℕ)) → (field ++ (32 ∷ [])) ++ line (next ∷ rest) ≡ line (field ∷ next ∷ rest)
-unfolding line
-line-more field next rest = append-assoc field (32 ∷ []) (line (next ∷ rest))
-
--- the last field of a line
-pub put-last : (field : List ℕ) {old new : List ℕ} {at end : ℕ} → Put old at (field ++ (10 ∷ [])) new end → Put old at (line (field ∷ [])) new end
-unfolding line
-put-last field p = p
-
--- a field before the others
-pub put-more : (field next : List ℕ) (rest : List (List ℕ)) {old mid new : List ℕ} {at then end : ℕ}
-    → Put old at (field ++ (32 ∷ [])) mid then → Put mid then (line (next ∷ rest)) new end → Put old at (line (field ∷ next ∷ rest)) new end
-put-more field next rest p q = put-same (line-more field next rest) (put-then p q)
 
 -- the line of task k, from its core and deadline
 pub taskLine-is : (b R : List ℕ) (k c d : ℕ) → c ≡ core b k → d ≡ deadline b k
     → line (decimal (k + 1) ∷ decimal c ∷ decimal (getD R k 0) ∷ decimal d ∷ []) ≡ taskLine b R k
 taskLine-is b R k c d e h = cc
-
--- lines joined: none, and one more
-module _ (f : ℕ → List ℕ) {old : List ℕ} {at : ℕ} where
-  pub put-joined-none : at ≤ length old → Put old at (joinTo f 0) old at
-  put-joined-none h = rw joinTo-none (put-none old at h)
-
-  pub put-joined-next : (k : ℕ) {mid new : List ℕ} {next end : ℕ} → Put old at (joinTo f k) mid next → Put mid next (f k) new end
-      → Put old at (joinTo f (k + 1)) new end
-  put-joined-next k p q = rw joinTo-next (put-then p q)

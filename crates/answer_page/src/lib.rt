@@ -1,8 +1,6 @@
 // The page of an answer, put into a lent buffer.
-ghost use mathlib.Core.List.{[], _∷_};
 ghost use Prim.Native.Nat.{_+_, _*_, _≤_, _<_};
 ghost use lib.ListN.{length};
-ghost use Rattle.text.specs.Text.{decimal, line};
 ghost use Rattle.text.specs.Buffer.{Put};
 ghost use Rattle.answer_page.specs.AnswerPage.{taskLine, taskLines, answerPage};
 ghost use Rattle.answer_page.specs.Printable.{Printable};
@@ -13,29 +11,9 @@ use answers::Answer;
 use board::fields;
 use folds::index;
 use folds::wide;
-use text::put_field;
-use text::put_number;
+use text::lines::number_line;
+use text::lines::pair_line;
 use text::put_word;
-
-// Puts a line of a text and one number at the start: at most 22 bytes after the text.
-fn number_line(out: &mut [u8], text: &[u8], x: u64) -> usize
-    requires { ⌜ length (now text) + 22 ≤ length (now out) ⌝ }
-    ensures { λ r. ⌜ Put (now (out .entry)) 0 (line (now (text .entry) ∷ decimal x ∷ [])) (now (out .exit)) r ⌝ }
-{
-    let next = put_field(out, 0, text, b' ');
-    put_number(out, next, x, b'\n')
-}
-
-// Puts a line of a text and two numbers at the start: at most 43 bytes after the text.
-pub fn pair_line(out: &mut [u8], text: &[u8], x: u64, y: u64) -> usize
-    requires { ⌜ length (now text) + 43 ≤ length (now out) ⌝ }
-    ensures { λ r. ⌜ Put (now (out .entry)) 0 (line (now (text .entry) ∷ decimal x ∷ decimal y ∷ [])) (now (out .exit)) r
-        × (r ≤ length (now (text .entry)) + 43) ⌝ }
-{
-    let first = put_field(out, 0, text, b' ');
-    let next = put_number(out, first, x, b' ');
-    put_number(out, next, y, b'\n')
-}
 
 // Puts the line of task k: four words, at most 44 bytes.
 fn task_line(out: &mut [u8], at: usize, board: &[u32], times: &[u32], k: usize) -> usize
@@ -68,7 +46,7 @@ fn times_page(out: &mut [u8], board: &[u32], times: &[u32], passes: u32) -> usiz
     ensures { λ r. ⌜ Put (now (out .entry)) 0 (answerPage (now (board .entry)) (now (times .entry)) (Times passes)) (now (out .exit)) r ⌝ }
 {
     let n = index(fields::tasks(board));
-    let next = pair_line(out, b"ok", n as u64, wide(passes));
+    let next = pair_line(out, 0, b"ok", n as u64, wide(passes));
     task_lines(out, next, board, times, n)
 }
 
@@ -79,8 +57,8 @@ pub fn answer_page(out: &mut [u8], board: &[u32], times: &[u32], answer: Answer)
 {
     match answer {
         Answer::Times(passes) => times_page(out, board, times, passes),
-        Answer::Late(task, passes) => pair_line(out, b"late", wide(task), wide(passes)),
-        Answer::Spent => number_line(out, b"spent", wide(fields::pass_limit(board))),
-        Answer::Refused(number, place) => pair_line(out, b"bad", number as u64, place as u64),
+        Answer::Late(task, passes) => pair_line(out, 0, b"late", wide(task), wide(passes)),
+        Answer::Spent => number_line(out, 0, b"spent", wide(fields::pass_limit(board))),
+        Answer::Refused(number, place) => pair_line(out, 0, b"bad", number as u64, place as u64),
     }
 }

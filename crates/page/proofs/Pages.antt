@@ -18,7 +18,7 @@ use Rattle.input.specs.Input.{wordsIn, inputRefusal}
 use Rattle.answer_page.specs.AnswerPage.{badLine, answerPage}
 use Rattle.answer_page.specs.Printable.{Printable}
 use Rattle.answer_page.proofs.Answers.{printable-as}
-use Rattle.page.specs.Page.{lentTimes, boardPage, pageBy, pageOf}
+use Rattle.page.specs.Page.{lentTimes, boardPage, pageBy, inputPage, pageOf}
 
 -- what Analyse answers can be printed: where it does not refuse, the board is sound and each task has a time
 module _ (b R : List ℕ) where
@@ -48,11 +48,19 @@ pub boardPage-is : (b R : List ℕ) (r : Answer) → r ≡ analyseAnswer b mostT
 unfolding boardPage
 boardPage-is b R r e h = rw (h, e)
 
--- the page of an input that row 15 passes, and of one that it refuses
+-- the page of an input that row 15 passes, and of one that it refuses, over any page of a board
+module _ (page : List ℕ → List ℕ) (bytes : List ℕ) where
+  pub inputPage-passed : (words : List ℕ) → inputRefusal bytes ≡ Passed → words ≡ wordsIn bytes → page words ≡ inputPage page bytes
+  inputPage-passed words e h = ap page h ∙ ap (λ (v : Verdict). pageBy page v bytes) (sym e)
+
+  pub inputPage-refused : (number place : ℕ) → inputRefusal bytes ≡ Verdict·Refused number place → badLine number place ≡ inputPage page bytes
+  inputPage-refused number place e = ap (λ (v : Verdict). pageBy page v bytes) (sym e)
+
+-- over the page of Analyse
 pub pageOf-passed : (bytes words : List ℕ) → inputRefusal bytes ≡ Passed → words ≡ wordsIn bytes → boardPage words ≡ pageOf bytes
 unfolding pageOf
-pageOf-passed bytes words e h = ap boardPage h ∙ ap (λ (v : Verdict). pageBy v bytes) (sym e)
+pageOf-passed = inputPage-passed boardPage
 
 pub pageOf-refused : (bytes : List ℕ) (number place : ℕ) → inputRefusal bytes ≡ Verdict·Refused number place → badLine number place ≡ pageOf bytes
 unfolding pageOf
-pageOf-refused bytes number place e = ap (λ (v : Verdict). pageBy v bytes) (sym e)
+pageOf-refused = inputPage-refused boardPage

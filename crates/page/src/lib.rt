@@ -8,13 +8,13 @@ ghost use Rattle.input.specs.Input.{inputRefusal};
 ghost use Rattle.text.specs.Buffer.{Put};
 ghost use Rattle.page.specs.Page.{boardPage, pageOf};
 use answer_page::answer_page;
-use answer_page::pair_line;
 use board::MOST_SCRATCH;
 use board::MOST_TASKS;
 use board::MOST_WORDS;
 use input::decode;
 use input::refusal;
 use refusals::Verdict;
+use text::lines::pair_line;
 
 // Reads the input until its end, a failed read or 65,537 bytes, and writes its page.
 pub fn run(from: i32, to: i32) {
@@ -40,7 +40,7 @@ fn input_page(out: &mut [u8], bytes: &[u8]) -> usize
 {
     match refusal(bytes) {
         Verdict::Passed => words_page(out, bytes),
-        Verdict::Refused(number, place) => pair_line(out, b"bad", number as u64, place as u64),
+        Verdict::Refused(number, place) => pair_line(out, 0, b"bad", number as u64, place as u64),
     }
 }
 

@@ -1,3 +1,4 @@
--- The laws of a buffer that is filled, and of digits.
+-- The laws of a buffer that is filled, of digits, and of lines put field by field.
 pub mod Buffer
 pub mod Digits
+pub mod Fields

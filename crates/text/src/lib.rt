@@ -1,4 +1,6 @@
 // Fields put into a lent buffer. Each function puts bytes at a place and answers the place after them.
+pub mod lines;
+
 ghost use mathlib.Core.Path.{_≡_};
 ghost use mathlib.Core.List.{[], _∷_, _++_};
 ghost use Prim.Native.Nat.{_+_, _≤_, _<_};

@@ -38,6 +38,6 @@ answer-page-spec =
     let put = c .before .before in
     let limit = put .before .before in
     put-spent _ _ _ (limit .before .before .before .enum-told .given .1)
-    (put .before .wide3 .ensures .0 ∙ limit .pass-limit .ensures .0) (put .number-line .ensures))
+    (put .before .wide3 .ensures .0 ∙ limit .pass-limit .ensures .0) (put .number-line .ensures .0))
     (λ c. search needs)
     (λ c. let put = c .before .before in put-bad _ _ _ _ (put .before .before .before .before .answer3 .given .1) (put .pair-line2 .ensures .0)))

@@ -3,7 +3,8 @@
 use borrow.Author.Needs.{needs}
 use native.Mathlib.Omega.{arith}
 use Rattle.text.proofs.Buffer.{put-same}
-use Rattle.answer_page.proofs.Lines.{put-last, put-more, taskLine-is}
+use Rattle.text.proofs.Fields.{put-last, put-more}
+use Rattle.answer_page.proofs.Lines.{taskLine-is}
 use Rattle.answer_page.proofs.task_line.Statement.{statement}
 use Rattle.answer_page.proofs.task_line.Tie as tie
 

@@ -7,7 +7,7 @@ use native.Mathlib.Omega.{arith}
 use lib.ListN.{length}
 use Rattle.text.specs.Buffer.{Put}
 use Rattle.answer_page.specs.AnswerPage.{taskLines}
-use Rattle.answer_page.proofs.Lines.{put-joined-none, put-joined-next}
+use Rattle.text.proofs.Fields.{put-joined-none, put-joined-next}
 use Rattle.answer_page.proofs.task_lines.Statement.{statement}
 use Rattle.answer_page.proofs.task_lines.Tie as tie
 

@@ -1,10 +1,10 @@
--- `answer_page::pair_line` meets its contract.
+-- `text::lines::pair_line` meets its contract.
 -- Assumes nothing.
 use borrow.Author.Needs.{needs}
 use native.Mathlib.Omega.{arith}
-use Rattle.answer_page.proofs.Lines.{put-last, put-more}
-use Rattle.answer_page.proofs.pair_line.Statement.{statement}
-use Rattle.answer_page.proofs.pair_line.Tie as tie
+use Rattle.text.proofs.Fields.{put-last, put-more}
+use Rattle.text.proofs.lines.pair_line.Statement.{statement}
+use Rattle.text.proofs.lines.pair_line.Tie as tie
 
 pub pair-line-spec : {M : Type 1} → statement M
 pair-line-spec =
