@@ -1,2 +1,3 @@
--- The program's input as words.
+-- A program's input as words, and its argument as a number.
 pub mod Input
+pub mod Argument

@@ -1,4 +1,6 @@
-// The program's input: bytes as little-endian words, and row 15 of the refusal table.
+// A program's input: bytes as little-endian words, and row 15 of the refusal table; and the number in its argument.
+pub mod argument;
+
 ghost use mathlib.Core.Path.{_≡_};
 ghost use Prim.Native.Nat.{_+_, _/_, _≤_, _<_};
 ghost use lib.ListN.{length, take};
