@@ -35,9 +35,19 @@ pub fn in_order<'a>(order: &'a [u32], board: &'a [u32]) {
 }
 
 fn print_reply(code: u32, answer: [u64; 2], times: &[u32], records: &[u32]) {
+    print_code(code, answer);
+    print_buffers(times, records);
+}
+
+// The code and the two words of an answer.
+pub fn print_code(code: u32, answer: [u64; 2]) {
     io::print_decimal(STDOUT_FILENO, wide(code));
     print_field(answer[0]);
     print_field(answer[1]);
+}
+
+// The words of the times and of the records, and the end of the line.
+pub fn print_buffers(times: &[u32], records: &[u32]) {
     io::write_all(STDOUT_FILENO, b" |");
     print_fields(times);
     io::write_all(STDOUT_FILENO, b" |");

@@ -3,6 +3,7 @@
 // with whole lines of which the first has a board; a line of dots fills a block up.
 mod analyse;
 mod board_page;
+mod make_up;
 mod overheads;
 mod tables;
 mod task;
@@ -84,6 +85,9 @@ fn answer_call<'a>(call: u32, given: &'a [u32], board: &'a [u32]) {
         9 => overheads::rows(given, board),
         10 => analyse::in_order(given, board),
         11 => tables::in_order_of_3(given, board),
+        12 => make_up::answer(given, board),
+        13 => tables::make_up_of_3(given, board),
+        14 => make_up::page(given, board),
         _ => {}
     }
 }

@@ -38,6 +38,17 @@ pub fn analyse_in_order_small<'a>(
     print::answer_small(answer, table);
 }
 
+pub fn make_up_small(
+    board: &[u32],
+    times: &mut [u32],
+    scratch: &mut [u32],
+    mut table: [Figure; 3],
+    task: usize,
+) {
+    let made = calls::make_up(board, times, scratch, &mut table, task);
+    print::made_up_small(made, table);
+}
+
 // What a record is before a call.
 pub fn marked() -> Figure {
     Figure {

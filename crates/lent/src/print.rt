@@ -2,6 +2,7 @@
 use crate::MARK;
 use calls::Answer;
 use calls::Figure;
+use calls::MadeUp;
 use calls::Outcome;
 use folds::wide;
 use libc::STDOUT_FILENO;
@@ -22,6 +23,11 @@ pub fn outcome_large(outcome: Outcome, table: [Figure; 64]) {
 
 pub fn answer_small(answer: Answer, table: [Figure; 3]) {
     print_answer(answer);
+    small(table);
+}
+
+pub fn made_up_small(made: MadeUp, table: [Figure; 3]) {
+    print_made_up(made);
     small(table);
 }
 
@@ -56,6 +62,29 @@ fn print_answer(answer: Answer) {
             io::write_all(STDOUT_FILENO, b"spent\n");
         }
         Answer::Refused(number, place) => {
+            print_refusal(number, place);
+        }
+    }
+}
+
+// `ok`, the six parts and the number of the largest, `spent`, or `bad` with number and place.
+fn print_made_up(made: MadeUp) {
+    match made {
+        MadeUp::Parts(parts, reason) => {
+            io::write_all(STDOUT_FILENO, b"ok");
+            print_field(parts.work);
+            print_field(parts.higher);
+            print_field(parts.own);
+            print_field(parts.others);
+            print_field(parts.blocking);
+            print_field(parts.refresh);
+            print_field(wide(reason));
+            end_line();
+        }
+        MadeUp::Spent => {
+            io::write_all(STDOUT_FILENO, b"spent\n");
+        }
+        MadeUp::Refused(number, place) => {
             print_refusal(number, place);
         }
     }
