@@ -1,7 +1,7 @@
 //! What several tests share; each of them uses a part.
 #![allow(dead_code)]
 use oracle::board::{Board, Kind, Rules, Trace};
-use oracle::changes::{analyse_in_order, Buffers};
+use oracle::changes::{analyse_in_order, make_up, Buffers, MakeUp};
 use oracle::literal::{Answer, Figure, Model};
 use oracle::{fast, page, plain};
 use std::collections::BTreeSet;
@@ -65,7 +65,7 @@ pub fn missed_by_distance(b: &Board, tr: Trace) -> u32 {
 }
 
 /// The answer of a call with room for 64 tasks, and what it leaves in times and table.
-fn left(call: impl FnOnce(&mut [u32], &mut [u32], &mut [Figure]) -> Answer) -> (Answer, Vec<u32>, Vec<Figure>) {
+pub fn left<A>(call: impl FnOnce(&mut [u32], &mut [u32], &mut [Figure]) -> A) -> (A, Vec<u32>, Vec<Figure>) {
     let mut b = Buffers::full();
     let answer = call(&mut b.times, &mut b.scratch, &mut b.table);
     (answer, b.times, b.table)
@@ -76,5 +76,18 @@ pub fn agree_in_order(w: &[u32], list: &[u32], rules: Rules) -> Answer {
     let wanted = left(|t, s, f| analyse_in_order(w, t, s, f, list, rules));
     assert_eq!(wanted, left(|t, s, f| plain::analyse_in_order_tested(w, t, s, f, list, rules)), "{list:?} {w:?}");
     assert_eq!(wanted, left(|t, s, f| fast::analyse_in_order(w, t, s, f, list, rules)), "{list:?} {w:?}");
+    wanted.0
+}
+
+/// How a task's time is made up, by `changes`, `plain` and `fast` alike; times and table are left as by Analyse, or as they were where it refuses.
+pub fn agree_made_up(w: &[u32], task: u64, rules: Rules) -> MakeUp {
+    let wanted = left(|t, s, f| make_up(w, t, s, f, task, rules));
+    assert_eq!(wanted, left(|t, s, f| plain::make_up_tested(w, t, s, f, task, rules)), "{task} {w:?}");
+    assert_eq!(wanted, left(|t, s, f| fast::make_up(w, t, s, f, task, rules)), "{task} {w:?}");
+    let (_, times, table) = match wanted.0 {
+        MakeUp::Refused(_) => left(|_, _, _| Answer::Spent),
+        _ => left(|t, s, f| fast::analyse(w, t, s, f, rules)),
+    };
+    assert_eq!((&wanted.1, &wanted.2), (&times, &table), "{task} {w:?}");
     wanted.0
 }
