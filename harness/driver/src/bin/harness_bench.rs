@@ -1,10 +1,11 @@
 //! harness_bench [ROUNDS]: the static library beside the reference, in one run: `plain with tests` (plain 64-bit arithmetic) and `fast` (tuned);
-//! Analyse in order also beside the library's own Analyse, and with refreshes put off also beside the library with none.
+//! Analyse in order and how a time is made up also beside the library's own Analyse, and with refreshes put off also beside the library with none.
 //! Each line has the product's time, then each other's with the ratio; best of the rounds, taken in turn, buffers not cleared in between.
 use driver::library::{self, RECORD};
 use driver::{orders, RULES};
 use oracle::board::{check_board, MOST_PUT_OFF};
 use oracle::generate::*;
+use oracle::changes::MakeUp;
 use oracle::literal::{Answer, Figure};
 use oracle::{fast, plain};
 use std::hint::black_box;
@@ -38,6 +39,15 @@ impl Buffers {
     }
     fn fast_in_order(&mut self, w: &[u32], order: &[u32]) -> Answer {
         fast::analyse_in_order(black_box(w), &mut self.times, &mut self.scratch, &mut self.table, order, RULES)
+    }
+    fn product_make_up(&mut self, w: &[u32], task: usize) -> (library::Reply, library::Parts) {
+        library::make_up(black_box(w), &mut self.times, &mut self.scratch, &mut self.records, task)
+    }
+    fn plain_make_up(&mut self, w: &[u32], task: usize) -> MakeUp {
+        plain::make_up_tested(black_box(w), &mut self.times, &mut self.scratch, &mut self.table, task as u64, RULES)
+    }
+    fn fast_make_up(&mut self, w: &[u32], task: usize) -> MakeUp {
+        fast::make_up(black_box(w), &mut self.times, &mut self.scratch, &mut self.table, task as u64, RULES)
     }
 }
 
@@ -82,6 +92,20 @@ fn analyses_in_order(rounds: usize, w: &[u32], order: &[u32]) -> [f64; 4] {
             &mut || keep(own.product(w)),
             &mut || keep(y.plain_in_order(w, order)),
             &mut || keep(z.fast_in_order(w, order)),
+        ],
+    )
+}
+
+/// Microseconds of how a task's time is made up, the whole call: the product, its own Analyse, `plain with tests` and `fast`.
+fn makings_up(rounds: usize, w: &[u32], task: usize) -> [f64; 4] {
+    let (mut x, mut y, mut own, mut z) = (Buffers::new(), Buffers::new(), Buffers::new(), Buffers::new());
+    race_in_turn(
+        rounds,
+        [
+            &mut || keep(x.product_make_up(w, task)),
+            &mut || keep(own.product(w)),
+            &mut || keep(y.plain_make_up(w, task)),
+            &mut || keep(z.fast_make_up(w, task)),
         ],
     )
 }
@@ -267,6 +291,19 @@ fn in_order(rounds: usize) {
     }
 }
 
+/// How the times of the first and of the last task are made up, beside the product's own Analyse and beside the reference.
+fn made_up(rounds: usize) {
+    println!("how a time is made up, whole call: the product, its Analyse, `plain with tests`, `fast`");
+    for bus in 0..5 {
+        for memory in 0..3 {
+            let w = largest_edge(77, memory, bus, 8, 0);
+            for task in [1, 64] {
+                line(&format!("  largest, bus {bus}, memory {memory}, task {task}, passes {}", passes(&w)), &makings_up(rounds, &w, task));
+            }
+        }
+    }
+}
+
 fn main() {
     let rounds: usize = match std::env::args().nth(1).map(|s| s.parse()) {
         None => 31,
@@ -317,4 +354,5 @@ fn main() {
     several_ways(rounds);
     put_off(rounds);
     two_caches(rounds);
+    made_up(rounds);
 }

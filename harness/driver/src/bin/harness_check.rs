@@ -1,18 +1,21 @@
-//! harness_check PROGRAM [SEED [BOARDS]]: the static library and the program `times` against the reference.
-//! All five calls on random, extreme and damaged boards, every lent buffer before and after, guard words around each; Analyse in
-//! order beside the library's own Analyse; the program on the same boards and on every prefix of good inputs. Ends with the number
-//! of differences, and status 1 if there are any.
+//! harness_check TIMES MAKEUP [SEED [BOARDS]]: the static library and the programs `times` and `makeup`, by their paths, against the reference.
+//! All six calls on random, extreme and damaged boards, every lent buffer before and after, guard words around each; Analyse in
+//! order and how times are made up beside the library's own Analyse; the programs on the same boards, `makeup` with drawn arguments,
+//! and on every prefix of good inputs. Ends with the number of differences, and status 1 if there are any.
 use driver::boards::*;
-use driver::library::{self, Reply, LATE, RECORD, REFUSED, SPENT, VALUE};
-use driver::{orders, RULES};
+use driver::library::{self, Parts, Reply, LATE, RECORD, REFUSED, SPENT, VALUE};
+use driver::{arguments, orders, RULES};
 use oracle::board::{check_board, Refusal, MOST_PUT_OFF};
 use oracle::damage::damaged;
 use oracle::generate::*;
 use oracle::literal::{self, Answer, Figure, Model, Nat};
-use oracle::{changes, fast, page};
+use oracle::changes::{self, MakeUp};
+use oracle::{fast, page};
 use std::collections::BTreeMap;
+use std::ffi::OsStr;
 use std::fmt::{Debug, Display};
 use std::io::Write;
+use std::os::unix::ffi::OsStrExt;
 use std::process::{Command, Stdio};
 
 const GUARD: usize = 16;
@@ -61,6 +64,8 @@ struct Tally {
     differences: usize,
     /// How often each call has had each kind of answer.
     answers: BTreeMap<&'static str, BTreeMap<String, usize>>,
+    /// How often each reason was given.
+    reasons: BTreeMap<u64, usize>,
     /// Boards on which Analyse and an order have an answer with passes, and those of them on which the order needs fewer.
     settled_twice: usize,
     fewer_passes: usize,
@@ -138,6 +143,30 @@ fn kind(a: Answer) -> String {
     }
 }
 
+/// The reply and the six numbers that a call should give, which are as they were where it has none, and the kind of its answer.
+struct Wanted {
+    given: (Reply, Parts),
+    kind: String,
+}
+
+impl From<Answer> for Wanted {
+    fn from(a: Answer) -> Wanted {
+        Wanted { given: (answered(a), Parts::untouched()), kind: kind(a) }
+    }
+}
+
+impl From<MakeUp> for Wanted {
+    fn from(m: MakeUp) -> Wanted {
+        match m {
+            MakeUp::Parts { parts, reason } => {
+                Wanted { given: (Reply::new(VALUE, [reason as u64, 0]), Parts::new(parts)), kind: "ok".to_string() }
+            }
+            MakeUp::Spent => Answer::Spent.into(),
+            MakeUp::Refused(e) => Answer::Refused(e).into(),
+        }
+    }
+}
+
 fn record(f: &Figure) -> Vec<u32> {
     let mut v = vec![f.core, f.period, f.deadline, f.pd, f.md];
     for w in f.ecb.into_iter().chain(f.ecb_data) {
@@ -167,11 +196,12 @@ fn small(w: &[u32]) -> bool {
     w.len() < 900
 }
 
-/// The two calls that settle a board's times.
+/// The three calls that settle a board's times.
 #[derive(Clone, Copy, Debug)]
 enum Settling<'a> {
     Analyse,
     AnalyseInOrder(&'a [u32]),
+    MakeUp(usize),
 }
 
 impl Settling<'_> {
@@ -179,21 +209,25 @@ impl Settling<'_> {
         match self {
             Settling::Analyse => "analyse",
             Settling::AnalyseInOrder(_) => "analyse in order",
+            Settling::MakeUp(_) => "make up",
         }
     }
-    fn of_reference(self, w: &[u32], times: &mut [u32], scratch: &mut [u32], table: &mut [Figure]) -> Answer {
+    fn of_reference(self, w: &[u32], times: &mut [u32], scratch: &mut [u32], table: &mut [Figure]) -> Wanted {
         let literally = small(w) && w.get(12).is_some_and(|&limit| limit < 3000);
         match self {
-            Settling::Analyse if literally => literal::analyse(w, times, scratch, table, RULES),
-            Settling::Analyse => fast::analyse(w, times, scratch, table, RULES),
-            Settling::AnalyseInOrder(list) if literally => changes::analyse_in_order(w, times, scratch, table, list, RULES),
-            Settling::AnalyseInOrder(list) => fast::analyse_in_order(w, times, scratch, table, list, RULES),
+            Settling::Analyse if literally => literal::analyse(w, times, scratch, table, RULES).into(),
+            Settling::Analyse => fast::analyse(w, times, scratch, table, RULES).into(),
+            Settling::AnalyseInOrder(list) if literally => changes::analyse_in_order(w, times, scratch, table, list, RULES).into(),
+            Settling::AnalyseInOrder(list) => fast::analyse_in_order(w, times, scratch, table, list, RULES).into(),
+            Settling::MakeUp(task) if literally => changes::make_up(w, times, scratch, table, task as u64, RULES).into(),
+            Settling::MakeUp(task) => fast::make_up(w, times, scratch, table, task as u64, RULES).into(),
         }
     }
-    fn of_product(self, w: &[u32], times: &mut [u32], scratch: &mut [u32], records: &mut [u32]) -> Reply {
+    fn of_product(self, w: &[u32], times: &mut [u32], scratch: &mut [u32], records: &mut [u32]) -> (Reply, Parts) {
         match self {
-            Settling::Analyse => library::analyse(w, times, scratch, records),
-            Settling::AnalyseInOrder(list) => library::analyse_in_order(w, times, scratch, records, list),
+            Settling::Analyse => (library::analyse(w, times, scratch, records), Parts::untouched()),
+            Settling::AnalyseInOrder(list) => (library::analyse_in_order(w, times, scratch, records, list), Parts::untouched()),
+            Settling::MakeUp(task) => library::make_up(w, times, scratch, records, task),
         }
     }
 }
@@ -205,14 +239,14 @@ fn try_settling(t: &mut Tally, r: &mut Rng, w: &[u32], n: usize, call: Settling)
     let mut records = some_records(r, n);
     let mut table = vec![Figure::default(); records.len / RECORD];
     let mut settled = times.words().to_vec();
-    let wanted = call.of_reference(w, &mut settled, &mut vec![0; scratch.len], &mut table);
-    let told = matches!(wanted, Answer::Refused(_));
+    let Wanted { given: wanted, kind } = call.of_reference(w, &mut settled, &mut vec![0; scratch.len], &mut table);
+    let told = wanted.0.code == REFUSED;
     let filled: Vec<u32> = if told { vec![] } else { table[..n].iter().flat_map(record).collect() };
     let (times_after, records_after, scratch_before) = (times.with(&settled), records.with(&filled), scratch.all.clone());
     let found = call.of_product(w, times.part(), scratch.part(), records.part());
     t.calls += 1;
-    *t.answers.entry(call.name()).or_default().entry(kind(wanted)).or_default() += 1;
-    t.same(format_args!("{call:?}"), w, found, answered(wanted));
+    *t.answers.entry(call.name()).or_default().entry(kind).or_default() += 1;
+    t.same(format_args!("{call:?}"), w, found, wanted);
     t.same(format_args!("times after {call:?}"), w, &times.all, &times_after);
     t.same(format_args!("records after {call:?}"), w, &records.all, &records_after);
     if told {
@@ -232,11 +266,18 @@ fn try_in_order(t: &mut Tally, r: &mut Rng, w: &[u32], n: usize, list: &[u32]) {
     t.same(format_args!("the list after analyse in order {list:?}"), w, &order.all, &before);
 }
 
-/// What the library answers with room for 64 tasks, and the times that it leaves.
-fn with_room(call: Settling, w: &[u32]) -> (Reply, Vec<u32>) {
+/// How the times of some tasks are made up, and of tasks that there are not.
+fn try_make_up(t: &mut Tally, r: &mut Rng, w: &[u32], n: usize) {
+    for i in [task(r, n), task(r, n), r.pick(&[0, n + 1, usize::MAX])] {
+        try_settling(t, r, w, n, Settling::MakeUp(i));
+    }
+}
+
+/// What the library gives with room for 64 tasks, and the times that it leaves.
+fn with_room(call: Settling, w: &[u32]) -> ((Reply, Parts), Vec<u32>) {
     let mut times = vec![0; 64];
-    let reply = call.of_product(w, &mut times, &mut vec![0; 4352], &mut vec![0; 64 * RECORD]);
-    (reply, times)
+    let given = call.of_product(w, &mut times, &mut vec![0; 4352], &mut vec![0; 64 * RECORD]);
+    (given, times)
 }
 
 /// A reply with 0 for its passes, and these; spent and refused have none.
@@ -252,8 +293,8 @@ fn passes_apart(reply: Reply) -> (Reply, Option<u64>) {
 /// An order of the tasks beside the library's own Analyse: unless this is spent, the answers are the same but for the passes, of which
 /// the order needs no more, and so are the times.
 fn try_beside_analyse(t: &mut Tally, w: &[u32], order: &[u32]) {
-    let (analysed, times) = with_room(Settling::Analyse, w);
-    let (in_order, times_in_order) = with_room(Settling::AnalyseInOrder(order), w);
+    let ((analysed, _), times) = with_room(Settling::Analyse, w);
+    let ((in_order, _), times_in_order) = with_room(Settling::AnalyseInOrder(order), w);
     t.calls += 2;
     if analysed.code == SPENT {
         return;
@@ -264,6 +305,26 @@ fn try_beside_analyse(t: &mut Tally, w: &[u32], order: &[u32]) {
     t.same(format_args!("the most passes, in order {order:?} or of analyse,"), w, passes.max(most), most);
     t.settled_twice += (passes.is_some() && most.is_some()) as usize;
     t.fewer_passes += (passes.is_some() && passes < most) as usize;
+}
+
+/// How the time of the late task, or of any, is made up, beside the library's own Analyse: it is spent or refused where that is, and leaves the same times;
+/// the six numbers add up to the task's time, or, where it is late, to more than its deadline.
+fn try_make_up_beside_analyse(t: &mut Tally, r: &mut Rng, w: &[u32], n: usize) {
+    let ((analysed, _), times) = with_room(Settling::Analyse, w);
+    let late = analysed.code == LATE;
+    let task = if late { analysed.answer[0] as usize } else { r.range(1, n.max(1) as u32) as usize };
+    let ((reply, parts), left) = with_room(Settling::MakeUp(task), w);
+    t.calls += 2;
+    t.same("the code of make up, and the times that it leaves, beside analyse", w, (reply.code, left), (if late { VALUE } else { analysed.code }, times.clone()));
+    let sum: u128 = parts.numbers.iter().map(|&x| x as u128).sum();
+    match analysed.code {
+        VALUE => t.same(format_args!("the sum of the six numbers of task {task}"), w, sum, times[task - 1] as u128),
+        LATE => t.same(format_args!("that the six numbers of late task {task} exceed its deadline"), w, sum > w[17 + 5 * task] as u128, true),
+        _ => t.same("the answer of make up beside analyse", w, reply, analysed),
+    }
+    if reply.code == VALUE {
+        *t.reasons.entry(reply.answer[0]).or_default() += 1;
+    }
 }
 
 fn try_figures(t: &mut Tally, r: &mut Rng, w: &[u32], n: usize) {
@@ -328,20 +389,34 @@ fn try_overhead_and_weigh(t: &mut Tally, r: &mut Rng, w: &[u32], n: usize) {
     }
 }
 
-fn run_program(program: &str, input: &[u8]) -> String {
-    let mut child = Command::new(program).stdin(Stdio::piped()).stdout(Stdio::piped()).spawn().expect("the program does not start");
+/// The paths of the two programs.
+struct Programs {
+    times: String,
+    makeup: String,
+}
+
+fn run_program(program: &str, arguments: &[Vec<u8>], input: &[u8]) -> String {
+    let mut command = Command::new(program);
+    command.args(arguments.iter().map(|a| OsStr::from_bytes(a)));
+    let mut child = command.stdin(Stdio::piped()).stdout(Stdio::piped()).spawn().expect("the program does not start");
     // the program reads at most 65,537 bytes, so the rest may find a closed pipe
     let _ = child.stdin.take().unwrap().write_all(input);
     String::from_utf8_lossy(&child.wait_with_output().unwrap().stdout).into_owned()
 }
 
-fn try_page(t: &mut Tally, program: &str, input: &[u8]) {
+/// The pages of an input: that of `times`, and that of `makeup` with arguments that are drawn for a board of n tasks.
+fn try_pages(t: &mut Tally, r: &mut Rng, programs: &Programs, input: &[u8], n: usize) {
+    let board = words_of(input).unwrap_or_default();
     let wanted = page::page_with(input, &mut |w, a, b, c| fast::analyse(w, a, b, c, RULES));
-    t.pages += 1;
-    t.same("page", &words_of(input).unwrap_or_default(), run_program(program, input), wanted);
+    t.same("page", &board, run_program(&programs.times, &[], input), wanted);
+    let given = arguments::any(r, n);
+    let argument = given.first().map_or(&[][..], |a| a.as_slice());
+    let wanted = page::make_up_page_with(input, argument, &mut |w, a, b, c, i| fast::make_up(w, a, b, c, i, RULES));
+    t.same(format_args!("page of makeup {given:?}"), &board, run_program(&programs.makeup, &given, input), wanted);
+    t.pages += 2;
 }
 
-fn try_board(t: &mut Tally, r: &mut Rng, program: &str, w: &[u32]) {
+fn try_board(t: &mut Tally, r: &mut Rng, programs: &Programs, w: &[u32]) {
     t.boards += 1;
     t.count(w);
     // the number of tasks that lengths and task numbers go by; a damaged board may claim any
@@ -352,9 +427,11 @@ fn try_board(t: &mut Tally, r: &mut Rng, program: &str, w: &[u32]) {
     try_beside_analyse(t, w, &right);
     let any = orders::any(r, w, n);
     try_in_order(t, r, w, n, &any);
+    try_make_up(t, r, w, n);
+    try_make_up_beside_analyse(t, r, w, n);
     try_figures(t, r, w, n);
     try_overhead_and_weigh(t, r, w, n);
-    try_page(t, program, &bytes_of(w));
+    try_pages(t, r, programs, &bytes_of(w), n);
 }
 
 fn main() {
@@ -366,30 +443,31 @@ fn main() {
             std::process::exit(2)
         }),
     };
-    let Some(program) = a.get(1).cloned() else {
-        eprintln!("usage: harness_check PROGRAM [SEED [BOARDS]]");
+    let (Some(times), Some(makeup)) = (a.get(1).cloned(), a.get(2).cloned()) else {
+        eprintln!("usage: harness_check TIMES MAKEUP [SEED [BOARDS]]");
         std::process::exit(2)
     };
-    let (seed, boards) = (number(2, 1), number(3, 20_000) as usize);
+    let programs = Programs { times, makeup };
+    let (seed, boards) = (number(3, 1), number(4, 20_000) as usize);
     let mut t = Tally::default();
     let mut r = Rng(seed);
     for k in 0..boards {
         let w = random(&mut r, k);
-        try_board(&mut t, &mut r, &program, &w);
+        try_board(&mut t, &mut r, &programs, &w);
         if k % 10 == 0 {
             let w = extreme(&mut r);
-            try_board(&mut t, &mut r, &program, &w);
+            try_board(&mut t, &mut r, &programs, &w);
         }
         if k % 40 == 0 {
             for w in [without_ways(&mut r, &w), without_sets(&mut r, &w), without_putting_off(&mut r, &w)] {
-                try_board(&mut t, &mut r, &program, &w);
+                try_board(&mut t, &mut r, &programs, &w);
             }
         }
         if k % 250 == 0 {
             for (_, bytes) in damaged(&mut r, &w, RULES.level) {
                 match words_of(&bytes) {
-                    Some(v) => try_board(&mut t, &mut r, &program, &v),
-                    None => try_page(&mut t, &program, &bytes),
+                    Some(v) => try_board(&mut t, &mut r, &programs, &v),
+                    None => try_pages(&mut t, &mut r, &programs, &bytes, w[1] as usize),
                 }
             }
         }
@@ -401,45 +479,47 @@ fn main() {
     println!();
     for bus in 0..5 {
         for memory in 0..2 {
-            try_board(&mut t, &mut r, &program, &largest_edge(seed + 7, memory, bus, 8, RULES.level));
+            try_board(&mut t, &mut r, &programs, &largest_edge(seed + 7, memory, bus, 8, RULES.level));
         }
         for ways in WAYS {
-            try_board(&mut t, &mut r, &program, &largest_edge_in_ways(seed + 7, bus, 8, ways));
-            try_board(&mut t, &mut r, &program, &largest_edge_in_two_caches(seed + 7, bus, 8, ways));
+            try_board(&mut t, &mut r, &programs, &largest_edge_in_ways(seed + 7, bus, 8, ways));
+            try_board(&mut t, &mut r, &programs, &largest_edge_in_two_caches(seed + 7, bus, 8, ways));
         }
-        try_board(&mut t, &mut r, &program, &largest_edge_in_ways(seed + 8, bus, 1, WAYS[bus as usize]));
-        try_board(&mut t, &mut r, &program, &largest_edge_in_two_caches(seed + 8, bus, 1, WAYS[bus as usize]));
-        try_board(&mut t, &mut r, &program, &largest_edge_put_off(seed + 9, 2, bus, 8, MOST_PUT_OFF));
+        try_board(&mut t, &mut r, &programs, &largest_edge_in_ways(seed + 8, bus, 1, WAYS[bus as usize]));
+        try_board(&mut t, &mut r, &programs, &largest_edge_in_two_caches(seed + 8, bus, 1, WAYS[bus as usize]));
+        try_board(&mut t, &mut r, &programs, &largest_edge_put_off(seed + 9, 2, bus, 8, MOST_PUT_OFF));
     }
     for ways in WAYS {
-        try_board(&mut t, &mut r, &program, &most_useful_board(ways));
+        try_board(&mut t, &mut r, &programs, &most_useful_board(ways));
     }
     for w in WAYS.iter().flat_map(|&ways| long_traces(seed, ways)) {
-        try_board(&mut t, &mut r, &program, &w);
+        try_board(&mut t, &mut r, &programs, &w);
     }
     for w in [long_times_board(10_000, 26_000), climbing_board(2, 1, 20_000, 2, 1_000_000), climbing_board(64, 8, 2_000, 2, 1_000_000), climbing_board(64, 8, 20_000_000, 3, 500)] {
-        try_board(&mut t, &mut r, &program, &w);
+        try_board(&mut t, &mut r, &programs, &w);
     }
     for _ in 0..40 {
         let w = lower_overhead_board(&mut r, RULES.level);
-        try_board(&mut t, &mut r, &program, &w);
+        try_board(&mut t, &mut r, &programs, &w);
     }
     println!("extreme boards done; prefixes of good inputs");
     let mut over = bytes_of(&k1());
     over.resize(65_540, 0);
     for end in [65_532, 65_535, 65_536, 65_537, 65_538, 65_540] {
-        try_page(&mut t, &program, &over[..end]);
+        try_pages(&mut t, &mut r, &programs, &over[..end], 2);
     }
     // K1, a scratchpad, a cache of eight ways, and two
     let good = [k1(), random(&mut r, 7), with_ways(&random(&mut r, 10), 8), with_ways(&random(&mut r, 15), 8)];
-    for input in good.iter().map(|w| bytes_of(w)) {
+    for w in &good {
+        let input = bytes_of(w);
         for end in 0..=input.len().min(4_000) {
-            try_page(&mut t, &program, &input[..end]);
+            try_pages(&mut t, &mut r, &programs, &input[..end], w[1] as usize);
         }
     }
     for (call, answers) in &t.answers {
         println!("answers of {call}: {answers:?}");
     }
+    println!("reasons of make up, of the late task or of any one: {:?}", t.reasons);
     println!("boards with one cache that are not refused, by word 15: {:?}", t.ways);
     println!("boards with two that are not refused, by word 15, and those with another answer or other times than in one: {:?}", t.two_caches);
     println!("boards with distributed refresh that are not refused, by word 16, and those with another answer or other times than with 0: {:?}", t.put_off);
