@@ -1,5 +1,5 @@
 /*
- * stack BOARD..: runs the five calls of the library on every board, each on a stack that is painted before the call, and prints the most bytes
+ * stack BOARD..: runs the six calls of the library on every board, each on a stack that is painted before the call, and prints the most bytes
  * of stack that each of them has touched, with its return address and the arguments that are passed in memory.
  */
 #include <stdio.h>
@@ -18,6 +18,7 @@ static uint32_t scratch[ZUZGRAVEL_SCRATCH_WORDS(TASKS)];
 static uint32_t records[TASKS * ZUZGRAVEL_RECORD_WORDS];
 static uint32_t order[TASKS]; /* the tasks ascending */
 static size_t order_words;
+static uint64_t parts[6];
 static uint64_t answer[2];
 
 static unsigned char stack[STACK] __attribute__((aligned(16)));
@@ -54,6 +55,13 @@ static void analyse_in_order(void)
     frame = __builtin_frame_address(0);
     zuzgravel_analyse_in_order(board, words, times, TASKS, scratch, ZUZGRAVEL_SCRATCH_WORDS(TASKS), records,
                                TASKS * ZUZGRAVEL_RECORD_WORDS, order, order_words, answer);
+}
+
+static void make_up(void)
+{
+    frame = __builtin_frame_address(0);
+    zuzgravel_make_up(board, words, times, TASKS, scratch, ZUZGRAVEL_SCRATCH_WORDS(TASKS), records, TASKS * ZUZGRAVEL_RECORD_WORDS,
+                      words < 2 ? 0 : board[1], parts, answer);
 }
 
 /* The board of a file, and an order of the tasks that it claims to have. */
@@ -93,9 +101,9 @@ static size_t touched(void (*call)(void), unsigned char paint)
 
 int main(int argc, char **argv)
 {
-    enum { CALLS = 5 };
-    static void (*const calls[CALLS])(void) = {figures, overhead, weigh, analyse, analyse_in_order};
-    static const char *const names[CALLS] = {"figures", "overhead", "weigh", "analyse", "analyse_in_order"};
+    enum { CALLS = 6 };
+    static void (*const calls[CALLS])(void) = {figures, overhead, weigh, analyse, analyse_in_order, make_up};
+    static const char *const names[CALLS] = {"figures", "overhead", "weigh", "analyse", "analyse_in_order", "make_up"};
     static const unsigned char paints[] = {0xa5, 0x5a};
     size_t most[CALLS] = {0};
     for (int k = 1; k < argc; k++) {

@@ -2,20 +2,20 @@
  * Zuzgravel: worst-case response times of the tasks of a multicore controller, as upper bounds: no task takes longer, as long as every
  * core runs the board's tasks as recorded and none of them is released more often than its period.
  *
- * The five calls of the proved library (`rt staticlib capi` writes target/staticlib/libcapi.a). Each call takes every input: it
+ * The six calls of the proved library (`rt staticlib capi` writes target/staticlib/libcapi.a). Each call takes every input: it
  * tests what it is given and refuses with the number and the place of the refusal table (README.md). No call keeps a pointer,
  * allocates, or fails to return.
  *
  * A board is a slice of 32-bit words, as README.md describes it. A buffer is a pointer and a length in words; a pointer must be
  * valid for that many words, aligned and not null, even where the length is 0, and no written buffer may overlap another. The same
- * goes for `answer`, which has two words.
+ * goes for `answer`, which has two words, and for `parts`, which has six.
  *
  * An answer is a code and two numbers. A C function gives back one number, so the code is what a call returns, and `answer` is where
  * the two numbers go: two words of the caller's. Every call writes both of them, a refused one too (a number that is not named below
  * is 0); a refused call writes to no other buffer.
  *
  *   code                    answer[0]                        answer[1]
- *   ZUZGRAVEL_VALUE    0    the value; of analyse and analyse_in_order: passes
+ *   ZUZGRAVEL_VALUE    0    the value; of analyse and analyse_in_order: passes; of make_up: the reason, 1 to 6
  *   ZUZGRAVEL_LATE     1    the late task, from 1            passes
  *   ZUZGRAVEL_SPENT    2
  *   ZUZGRAVEL_REFUSED  3    the row of the refusal table     the place
@@ -47,7 +47,7 @@ extern "C" {
  */
 #define ZUZGRAVEL_RECORD_WORDS 21u
 
-/* Words of scratch that zuzgravel_analyse and zuzgravel_analyse_in_order ask for with n tasks. */
+/* Words of scratch that zuzgravel_analyse, zuzgravel_analyse_in_order and zuzgravel_make_up ask for with n tasks. */
 #define ZUZGRAVEL_SCRATCH_WORDS(n) ((size_t)(n) * (size_t)(n) + 4u * (size_t)(n))
 
 /*
@@ -92,6 +92,21 @@ uint32_t zuzgravel_analyse(const uint32_t *board, size_t board_words, uint32_t *
 uint32_t zuzgravel_analyse_in_order(const uint32_t *board, size_t board_words, uint32_t *times, size_t times_words, uint32_t *scratch,
                                     size_t scratch_words, uint32_t *records, size_t record_words, const uint32_t *order,
                                     size_t order_words, uint64_t answer[2]);
+
+/*
+ * Make up: how the time of a task, numbered from 1, is made up. Six numbers of cycles go to `parts`, at the times at which the passes of
+ * zuzgravel_analyse end: the task's own work; the work of the higher tasks of its core; the bus accesses of its core, its own among
+ * them; the accesses from other cores, or their slots; the one access that blocks it; refreshes. They add up to the task's time where
+ * the board has times, and to more than its deadline where the task is late. ZUZGRAVEL_VALUE is the code of both; the value, the
+ * reason, is the number of the largest, from 1, and of equals that of the earliest. A board that is late gives the numbers of every
+ * task, its other tasks too. The code is ZUZGRAVEL_SPENT where that of zuzgravel_analyse is, and never ZUZGRAVEL_LATE; with it, and
+ * where the call is refused, the six words of `parts` stay as they were. `times`, `scratch` and `records` are left as by
+ * zuzgravel_analyse: `times` is filled where no task of the board is late, and else stays as it was.
+ * Refuses with rows 1 to 9, 10 for the task, 11 (times), 12 (scratch) and 13 (records), with the places of zuzgravel_analyse.
+ */
+uint32_t zuzgravel_make_up(const uint32_t *board, size_t board_words, uint32_t *times, size_t times_words, uint32_t *scratch,
+                           size_t scratch_words, uint32_t *records, size_t record_words, size_t task, uint64_t parts[6],
+                           uint64_t answer[2]);
 
 #ifdef __cplusplus
 }
