@@ -77,3 +77,7 @@ def few_tasks(n, last, memory, bus, refresh):
     turn = [(0, 2 << 16), (1, READ + (2 << 16) + 32768), (0, 1 << 16)]
     two = [turn + turn[:1], [(2, WRITE + (9 << 16) + 32769)]]
     return board(3, [(1, 120, 120, [turn]), (2, 150, 150, [turn[1:]]), (last, 400, 400, two)][:n], memory, bus, refresh, 5, 100)
+
+
+def equal_tasks(n):
+    return board(1, [(1, 900, 900, [executes(0)])] * n)

@@ -30,6 +30,11 @@ MARK = [9] * 13  # a record before a call
 SPARE = 20  # words after three records, one fewer than a record has
 
 
+def before():
+    """The times and the table as a call is lent them: 6 words, all 7, and three marked records."""
+    return [7] * 6, [MARK] * 3
+
+
 def figures_of_64(words):
     table = records(words)
     return '2', [str(len(table))] + record_lines(table) + ['same %d' % (64 - len(table))]
@@ -67,11 +72,11 @@ def row(answer):
 
 
 def lent(words, *command):
-    """The answer, the times and the table of Analyse, or of the reference's command `order` with a list, where it is lent 6 words of times, all 7,
-    32 of scratch, and three marked records."""
+    """The answer, the times and the table of Analyse, or of the reference's command `order` with a list, where it is lent these and 32 words of
+    scratch."""
     answer, *lines = ask(words, *command)
     n = words[1] if len(words) > 1 else 0
-    times, table = [7] * 6, [MARK] * 3
+    times, table = before()
     if 0 < row(answer) < 10:
         return answer, times, table
     for short, most in ((11, 6), (12, 32), (13, 3)):
@@ -92,20 +97,33 @@ def figures_of_3(words, answer, times, table):
     return '6', [line] + record_lines(table)
 
 
-def analyse_of_3(call, answer, times, table):
-    kind, *fields = answer.split()
-    line = {'ok': 'ok ' + fields[-1], 'spent': 'spent'}.get(kind, answer)
+def tables_of_3(call, line, times, table):
+    """The line of an answer, those of three records, and that of the times."""
     return call, [line] + record_lines(table) + [' '.join(map(str, ['times'] + times))]
 
 
-def analyse(call, answer, times, table):
-    """For C: the code and the numbers of the answer, the times, and the records as words, with words to spare."""
+def analyse_of_3(call, answer, times, table):
     kind, *fields = answer.split()
+    return tables_of_3(call, {'ok': 'ok ' + fields[-1], 'spent': 'spent'}.get(kind, answer), times, table)
+
+
+def for_c(call, kind, numbers, *groups):
+    """The code and the numbers of an answer, and the words of each buffer."""
     code = ('ok', 'late', 'spent', 'bad').index(kind)
-    numbers = {'ok': fields[1:2] + [0], 'late': fields, 'spent': [0, 0], 'bad': fields}[kind]
+    return call, [' | '.join(' '.join(map(str, group)) for group in ([code, *numbers], *groups))]
+
+
+def record_words(table):
+    """The records as words, with words to spare."""
     def halves(record): return [half for s in record[5:] for half in ((9, 9) if record == MARK else (s % 2**32, s >> 32))]
-    held = [x for record in table for x in record[:5] + halves(record)]
-    return call, [' '.join(map(str, [code, *numbers, '|', *times, '|', *held, *[9] * SPARE]))]
+    return [x for record in table for x in record[:5] + halves(record)] + [9] * SPARE
+
+
+def analyse(call, answer, times, table):
+    """For C: the answer, the times and the records."""
+    kind, *fields = answer.split()
+    numbers = {'ok': fields[1:2] + [0], 'late': fields, 'spent': [0, 0], 'bad': fields}[kind]
+    return for_c(call, kind, numbers, times, record_words(table))
 
 
 def in_order(words, lists):
@@ -116,6 +134,38 @@ def in_order(words, lists):
         held = lent(words, 'order', *given)
         calls += [analyse(' '.join(['10', *given]), *held), analyse_of_3(' '.join(['11', *given]), *held)]
     return calls
+
+
+def make_up(words, number):
+    """How a task's time is made up, as the reference prints it: the kind of the answer; its numbers, that is the reason, or row and place; and the six."""
+    first, *lines = ask(words, 'makeup', str(number))
+    kind, *fields = first.split()
+    if kind in ('bad', 'spent'):
+        return kind, fields if kind == 'bad' else [], []
+    return 'ok', lines[-1].split()[1:2], [line.split()[1] for line in (first, *lines[:5])]
+
+
+def made_up(words, *tasks):
+    """How the time of each task is made up, for C and with a table. Both are lent, and leave, what Analyse is and does; row 10 comes before the rows of
+    these buffers."""
+    calls = []
+    for number in tasks:
+        kind, numbers, parts = make_up(words, number)
+        analysed, times, table = lent(words)
+        if kind == 'bad':
+            times, table = before()
+        elif row(analysed):
+            kind, numbers, parts = 'bad', analysed.split()[1:], []
+        line = ' '.join([kind, *parts, *numbers])
+        numbers = (numbers + [0, 0])[:2]
+        calls.append(for_c('12 ' + task(number), kind, numbers, parts or [5] * 6, times, record_words(table)))
+        calls.append(tables_of_3('13 ' + task(number), line, times, table))
+    return calls
+
+
+def make_up_page(words, argument):
+    """The page of `makeup` with these bytes for its argument."""
+    return ' '.join(['14', *map(str, argument)]), ask(words, 'makeup', argument)
 
 
 def numbers(words):

@@ -1,9 +1,10 @@
-"""The files of call_cases and times_cases."""
+"""The files of call_cases, times_cases and makeup."""
 import os, shutil
 
 from stored.reference import HARNESS, oracle
 
 CRATES = os.path.join(HARNESS, '..', 'crates')
+EXAMPLES = os.path.join(HARNESS, '..', 'examples')
 BLOCK = 65536  # bytes that call_cases reads at a time
 
 
@@ -56,3 +57,16 @@ def times_cases(files):
     write(os.path.join(folder, 'args'), ''.join(name + '\n' for name in [*files, '.']).encode())
     write(os.path.join(folder, 'stdout'), ''.join(pages).encode())
     print('times_cases:', len(files), 'files')
+
+
+def makeup_example():
+    """The program `makeup` on the late board of the examples, with the task that is late."""
+    with open(os.path.join(EXAMPLES, 'late.board'), 'rb') as file:
+        content = file.read()
+    late = oracle(content).split()[1]
+    page = oracle(content, 'makeup', late).encode()
+    folder = os.path.join(CRATES, 'makeup')
+    os.makedirs(folder, exist_ok=True)
+    for name, made in (('stdin', content), ('args', late.encode() + b'\n'), ('stdout', page)):
+        write(os.path.join(folder, name), made)
+    write(os.path.join(EXAMPLES, 'late.makeup'), page)

@@ -1,10 +1,10 @@
 """Passes in order: boards and lists for them, and the calls made on each."""
 import itertools
 
-from stored.boards import K1, TOP, WRITE, board, edit, executes, few_tasks
+from stored.boards import K1, TOP, WRITE, board, edit, equal_tasks, few_tasks
 from stored.calls import analyse, in_order, lent
 from stored.corners import corners
-from stored.refusals import FAULTS
+from stored.refusals import refused_k1
 from stored.reference import ask
 
 
@@ -57,9 +57,8 @@ def order_cases():
     limited = [b for words in ready + [late(words) for words in ready[:3]] for b in around(words)]
     cases = [(words, [analyse('4', *lent(words))] + in_order(words, orders(words[1]))) for words in limited]
     cases += [(words, in_order(words, orders(words[1]) + no_orders(words[1]))) for words in (corners()['one_task'], K1, ready[1])]
-    refused = [[], K1[:19]] + [fault(K1) for fault in FAULTS.values()]
-    cases += [(words, in_order(words, [[], [1, 2], [0, 3]])) for words in refused]
+    cases += [(words, in_order(words, [[], [1, 2], [0, 3]])) for words in refused_k1()]
     for n in (4, 5, 6, 7, 64):
-        equal = board(1, [(1, 900, 900, [executes(0)])] * n)
+        equal = equal_tasks(n)
         cases.append((equal, in_order(equal, [[], list(range(1, n + 1)), [0] * n])))
     return cases

@@ -15,6 +15,11 @@ FAULTS = {
 EDGES = (0, 1, 2, 3, 4, 5, 8, 9, 64, 65, 255, 256, 257, 512, 513, 8192, 8193, 32768, 32769, 65535, 65536, LONGEST, LONGEST + 1, TOP)
 
 
+def refused_k1():
+    """K1 cut short, and with a fault of each row from 2 to 9."""
+    return [[], K1[:19]] + [fault(K1) for fault in FAULTS.values()]
+
+
 def maker(draw):
     """Makes boards of tasks (core, T, D, lengths of traces), with drawn instructions."""
     def trace(length):
