@@ -1,5 +1,6 @@
 /*
- * watchdogs BOARD: analyses the board in the file BOARD and prints the time that the watchdog of each task has to allow.
+ * watchdogs BOARD: analyses the board in the file BOARD and prints the time that the watchdog of each task has to allow. Where a task is
+ * late, it prints what the cycles of that task are spent on, so that a fitter sees what to move.
  * Built from the repository's top: cc -Iinclude examples/watchdogs.c target/staticlib/libcapi.a -o watchdogs
  */
 #include <stdio.h>
@@ -13,6 +14,11 @@ static uint32_t board[WORDS];
 static uint32_t times[TASKS];
 static uint32_t scratch[ZUZGRAVEL_SCRATCH_WORDS(TASKS)];
 static uint32_t records[TASKS * ZUZGRAVEL_RECORD_WORDS];
+
+/* The six parts of a time, in their order. */
+static const char *const parts_in_words[6] = {
+    "own work", "work of higher tasks of its core", "accesses of its core", "accesses of other cores", "one blocking access", "refreshes",
+};
 
 /* Reads at most one byte more than the largest board has; returns their number. The words are little-endian. */
 static size_t read_board(FILE *file)
@@ -30,6 +36,17 @@ static int refused(uint64_t row, uint64_t place)
 {
     printf("the board is refused: row %llu, place %llu\n", (unsigned long long)row, (unsigned long long)place);
     return 1;
+}
+
+/* How the sum of a late task is made up: a line for each part, of which the largest is marked. */
+static void print_parts(size_t board_words, uint64_t task)
+{
+    uint64_t parts[6], answer[2];
+    uint32_t code = zuzgravel_make_up(board, board_words, times, TASKS, scratch, ZUZGRAVEL_SCRATCH_WORDS(TASKS), records,
+                                      TASKS * ZUZGRAVEL_RECORD_WORDS, (size_t)task, parts, answer);
+    for (unsigned k = 0; code == ZUZGRAVEL_VALUE && k < 6; k++) {
+        printf("  %s %llu cycles%s\n", parts_in_words[k], (unsigned long long)parts[k], answer[0] == k + 1 ? ", the most" : "");
+    }
 }
 
 int main(int argc, char **argv)
@@ -62,6 +79,7 @@ int main(int argc, char **argv)
         return 0;
     case ZUZGRAVEL_LATE:
         printf("task %llu is late\n", (unsigned long long)answer[0]);
+        print_parts(bytes / 4, answer[0]);
         return 1;
     case ZUZGRAVEL_SPENT:
         printf("the pass limit is spent\n");
