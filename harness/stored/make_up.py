@@ -111,8 +111,9 @@ def refusals():
 
 
 def pages(drawn):
-    """Boards with arguments: of every kind on a board of three tasks, the first of them late; on boards that are refused or spent; and on the drawn boards
-    their tasks in turn."""
+    """Boards with arguments: those with each reason; arguments of every kind on a board of three tasks, the first of them late; boards that are refused
+    or spent; and the drawn boards with their tasks in turn."""
+    yield from ((largest_are([k], 2), b'3') for k in range(1, 7))
     some = deadlines(few_tasks(3, 1, MEMORIES[3], BUSES[3], THREE_ROWS), 20)
     yield from ((some, argument) for argument in ARGUMENTS)
     for words in [*refused_k1(), edit(K1, (12, 3)), equal_tasks(64)]:
