@@ -54,6 +54,20 @@ pub fn task_parts(
     }
 }
 
+// The six numbers, in document 02's order.
+pub fn six(parts: SumParts) -> [u64; 6]
+    ensures { λ r. ⌜ r ≡ listed parts ⌝ }
+{
+    [
+        parts.work,
+        parts.higher,
+        parts.own,
+        parts.others,
+        parts.blocking,
+        parts.refresh,
+    ]
+}
+
 // The parts added up: of the parts of a sum, that sum.
 pub fn add_parts(parts: SumParts) -> u64
     requires { ⌜ total (listed parts) < 2 ^ 64 ⌝ }

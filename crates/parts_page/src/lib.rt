@@ -15,6 +15,7 @@ use folds::index;
 use folds::wide;
 use interference::SumParts;
 use interference::add_parts;
+use interference::six;
 use text::lines::number_line;
 use text::lines::pair_line;
 use text::put_field;
@@ -50,14 +51,7 @@ fn part_lines(out: &mut [u8], parts: SumParts) -> usize
     requires { ⌜ 222 ≤ length (now out) ⌝ }
     ensures { λ r. ⌜ Put (now (out .entry)) 0 (joinTo (partLine (listed parts)) 6) (now (out .exit)) r × (r ≤ 222) ⌝ }
 {
-    let all = [
-        parts.work,
-        parts.higher,
-        parts.own,
-        parts.others,
-        parts.blocking,
-        parts.refresh,
-    ];
+    let all = six(parts);
     let mut next: usize = 0;
     let mut k: usize = 0;
     while k < 6 {

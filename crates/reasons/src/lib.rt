@@ -1,6 +1,7 @@
 // The six parts of a task's sum at the times that a prepared scratch begins with, and the largest of them.
 use answers::MadeUp;
 use interference::SumParts;
+use interference::six;
 ghost use mathlib.Core.Path.{_≡_};
 ghost use Prim.Native.Nat.{_<_};
 ghost use lib.ListN.{take};
@@ -24,14 +25,7 @@ pub fn parts_at(board: &[u32], n: usize, scratch: &[u32], i: usize) -> MadeUp
 fn reason_of(parts: SumParts) -> u32
     ensures { λ r. ⌜ r ≡ reason (listed parts) ⌝ }
 {
-    let all = [
-        parts.work,
-        parts.higher,
-        parts.own,
-        parts.others,
-        parts.blocking,
-        parts.refresh,
-    ];
+    let all = six(parts);
     let mut at: usize = 0;
     let mut k: usize = 1;
     while k < 6 {

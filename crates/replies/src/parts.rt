@@ -1,6 +1,7 @@
 // How a time is made up, as a code, two words and the six of the parts.
 use crate::reply::give;
 use answers::MadeUp;
+use interference::six;
 ghost use mathlib.Core.Path.{_≡_};
 ghost use Rattle.replies.specs.Replies.{madeUpCode, madeUpWords, partsAfter};
 
@@ -9,15 +10,8 @@ pub fn of_made_up(made: MadeUp, parts: &mut [u64; 6], words: &mut [u64; 2]) -> u
     ensures { λ r. ⌜ (r ≡ madeUpCode made) × ((now (words .exit) ≡ madeUpWords made) × (now (parts .exit) ≡ partsAfter made (now (parts .entry)))) ⌝ }
 {
     match made {
-        MadeUp::Parts(six, reason) => {
-            *parts = [
-                six.work,
-                six.higher,
-                six.own,
-                six.others,
-                six.blocking,
-                six.refresh,
-            ];
+        MadeUp::Parts(found, reason) => {
+            *parts = six(found);
             give(0, reason as u64, 0, words)
         }
         MadeUp::Spent => give(2, 0, 0, words),

@@ -25,6 +25,7 @@ part-lines-spec =
     (tie.spec
     Inv-loop
     μ-loop
+    (λ c κs. search needs)
     (λ c. (omega arith, omega arith, refl, put-joined-none _ (omega arith)))
     (λ c. search needs)
     (λ c. search needs)
@@ -38,4 +39,4 @@ part-lines-spec =
     (λ c. search needs)
     (λ c.
     let done : c .before .loop .k ≡ 6 = omega arith in
-    (rw done at (c .before .loop .inv .3), omega arith)))
+    (rw (done, c .before .before .six .ensures) at (c .before .loop .inv .3), omega arith)))

@@ -1,8 +1,9 @@
 -- `reasons::reason_of` meets its contract. The invariant: of the parts before k the one at `at` is the largest, and the earliest of equals.
 -- Assumes nothing.
 use Prim.Native.Nat.{ℕ, _-_, _≤_}
+use mathlib.Core.List.{List}
 use mathlib.Core.Logic.{⊎-elim}
-use mathlib.Core.Path.{subst}
+use mathlib.Core.Path.{_≡_, subst₂}
 use native.Mathlib.Nat.{le-antisymm}
 use native.Mathlib.Omega.{arith}
 use lib.ListN.{getD}
@@ -26,6 +27,7 @@ reason-of-spec =
     (tie.spec
     Inv-loop
     μ-loop
+    (λ c κs. search needs)
     (λ c. (omega arith, largest-one _))
     (λ c. search needs)
     (λ c. let l = c .before .loop in omega (arith, l .inv .1 .below, l .inv .0))
@@ -45,6 +47,7 @@ reason-of-spec =
     (λ c. let l = c .before .loop in omega (arith, l .inv .1 .below, l .inv .0))
     (λ c.
     let l = c .before .loop in
-    let six = listed (c .before .before .args .parts) in
-    let found = subst (λ (m : ℕ). Largest (λ j. getD six j 0) m (l .at)) (le-antisymm (l .inv .0) (omega arith)) (l .inv .1) in
-    omega (arith, reason-is six found)))
+    let made = c .before .before in
+    let all : l .k ≡ 6 = le-antisymm (l .inv .0) (omega arith) in
+    let found = subst₂ (λ (numbers : List ℕ) (m : ℕ). Largest (λ j. getD numbers j 0) m (l .at)) (made .six .ensures) all (l .inv .1) in
+    omega (arith, reason-is (listed (made .before .args .parts)) found)))
