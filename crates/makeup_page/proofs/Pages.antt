@@ -39,32 +39,32 @@ sum-fits b i s task =
 
 -- what `make_up` answers can be printed: where it does not refuse, the board is sound, the task is one of its tasks, and its sum fits
 module _ (b : List ℕ) (times scratch table task : ℕ) {left : List ℕ} where
-  passed-printable : (r : MadeUp) → makeUpRefusal b times scratch table task ≡ Passed → MadeUpOf b times scratch table (task - 1) r left → Printable b (task - 1) r
+  passed-printable : (r : MadeUp) → makeUpRefusal b times scratch table task ≡ Passed → MadeUpOf b times scratch table (task - 1) r left → Printable b task r
   passed-printable (Parts parts k) e promised =
       let taken = make-up-taken b times scratch table task e in
       let within : task - 1 < tasks b = omega (arith, taken .task) in
       let sound = taken .analyse .analysable .sound in
-      (sound, within, omega (arith, promised .sum parts k refl, sum-fits b (task - 1) sound within), promised .reason parts k refl .0)
+      (sound, taken .task, omega (arith, promised .sum parts k refl, sum-fits b (task - 1) sound within), promised .reason parts k refl .0)
   passed-printable Spent e promised = make-up-taken b times scratch table task e .analyse .analysable .sound
   passed-printable (Refused number place) e promised = tt
 
   module _ {r : MadeUp} (answer : r ≡ makeUpAnswer b times scratch table task)
       (promised : makeUpRefusal b times scratch table task ≡ Passed → MadeUpOf b times scratch table (task - 1) r left) where
-    by-verdict : (v : Verdict) → makeUpRefusal b times scratch table task ≡ v → Printable b (task - 1) r
+    by-verdict : (v : Verdict) → makeUpRefusal b times scratch table task ≡ v → Printable b task r
     unfolding makeUpAnswer
     by-verdict Passed e = passed-printable r e (promised e)
     by-verdict (Verdict·Refused number place) e =
         let refused : r ≡ Refused number place = answer ∙ ap (λ (v : Verdict). madeUpBy v b (task - 1)) e in
-        printable-as b (task - 1) (sym refused) tt
+        printable-as b task (sym refused) tt
 
-    pub make-up-printable : Printable b (task - 1) r
+    pub make-up-printable : Printable b task r
     make-up-printable = by-verdict (makeUpRefusal b times scratch table task) refl
 
 -- the page of `make_up`'s answer is the board's
-pub boardMadeUp-is : (b : List ℕ) {task number i : ℕ} {r : MadeUp} → number ≡ task → i ≡ number - 1 → r ≡ makeUpAnswer b mostTasks mostScratch mostTasks number
-    → madeUpPage b i r ≡ boardMadeUp task b
+pub boardMadeUp-is : (b : List ℕ) {task number : ℕ} {r : MadeUp} → number ≡ task → r ≡ makeUpAnswer b mostTasks mostScratch mostTasks number
+    → madeUpPage b (number - 1) r ≡ boardMadeUp task b
 unfolding boardMadeUp
-boardMadeUp-is b e h answer = rw (answer, h, e)
+boardMadeUp-is b e answer = rw (answer, e)
 
 -- the page of an input that row 15 passes, and of one that it refuses
 module _ (argument bytes : List ℕ) where

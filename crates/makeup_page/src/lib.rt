@@ -11,7 +11,6 @@ ghost use Rattle.makeup_page.specs.MakeUpPage.{boardMadeUp, makeUpPage};
 use board::MOST_SCRATCH;
 use board::MOST_TASKS;
 use board::MOST_WORDS;
-use folds::less;
 use input::argument::number_in;
 use input::decode;
 use input::refusal;
@@ -65,7 +64,7 @@ pub fn board_page(out: &mut [u8], argument: &[u8], board: &[u32]) -> usize
 {
     let mut times = [0u32; MOST_TASKS];
     let mut scratch = [0u32; MOST_SCRATCH];
-    let number = number_in(argument);
-    let made = calls::make_up_alone(board, &mut times, &mut scratch, number as usize);
-    made_up_page(out, board, less(number, 1) as usize, made)
+    let task = number_in(argument) as usize;
+    let made = calls::make_up_alone(board, &mut times, &mut scratch, task);
+    made_up_page(out, board, task, made)
 }

@@ -18,8 +18,8 @@ use Rattle.parts_page.specs.PartsPage.{partName, partLine, lastLines, ma
 use Rattle.parts_page.specs.Printable.{Printable}
 
 -- what it takes to print r, where r is s
-pub printable-as : (b : List ℕ) (i : ℕ) {r s : MadeUp} → r ≡ s → Printable b i r → Printable b i s
-printable-as b i e h = subst (Printable b i) e h
+pub printable-as : (b : List ℕ) (task : ℕ) {r s : MadeUp} → r ≡ s → Printable b task r → Printable b task s
+printable-as b task e h = subst (Printable b task) e h
 
 module _ (b : List ℕ) (i : ℕ) {old new : List ℕ} {end : ℕ} where
   -- the lines after the parts

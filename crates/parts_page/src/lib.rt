@@ -71,39 +71,44 @@ fn reason_line(out: &mut [u8], at: usize, reason: u32) -> usize
     put_name(out, next, index(reason) - 1, b'\n')
 }
 
-// Puts the lines after the parts, of task i: their sum, the deadline and the reason, at most 89 bytes.
+// Puts the lines after the parts, of a task by its number from 1: their sum, the deadline and the reason, at most 89 bytes.
 fn last_lines(
     out: &mut [u8],
     at: usize,
     board: &[u32],
-    i: usize,
+    task: usize,
     parts: SumParts,
     reason: u32,
 ) -> usize
-    requires { ⌜ Printable (now board) i (Parts parts reason) × (at + 89 ≤ length (now out)) ⌝ }
-    ensures { λ r. ⌜ Put (now (out .entry)) at (lastLines (now (board .entry)) i (listed parts) reason) (now (out .exit)) r ⌝ }
+    requires { ⌜ Printable (now board) task (Parts parts reason) × (at + 89 ≤ length (now out)) ⌝ }
+    ensures { λ r. ⌜ Put (now (out .entry)) at (lastLines (now (board .entry)) (task - 1) (listed parts) reason) (now (out .exit)) r ⌝ }
 {
     let first = number_line(out, at, b"sum", add_parts(parts));
-    let next = number_line(out, first, b"deadline", wide(fields::deadline(board, i)));
+    let next = number_line(
+        out,
+        first,
+        b"deadline",
+        wide(fields::deadline(board, task - 1)),
+    );
     reason_line(out, next, reason)
 }
 
-// Puts the page of the parts of task i.
-fn parts_page(out: &mut [u8], board: &[u32], i: usize, parts: SumParts, reason: u32) -> usize
-    requires { ⌜ Printable (now board) i (Parts parts reason) × (512 ≤ length (now out)) ⌝ }
-    ensures { λ r. ⌜ Put (now (out .entry)) 0 (madeUpPage (now (board .entry)) i (Parts parts reason)) (now (out .exit)) r ⌝ }
+// Puts the page of the parts of a task.
+fn parts_page(out: &mut [u8], board: &[u32], task: usize, parts: SumParts, reason: u32) -> usize
+    requires { ⌜ Printable (now board) task (Parts parts reason) × (512 ≤ length (now out)) ⌝ }
+    ensures { λ r. ⌜ Put (now (out .entry)) 0 (madeUpPage (now (board .entry)) (task - 1) (Parts parts reason)) (now (out .exit)) r ⌝ }
 {
     let next = part_lines(out, parts);
-    last_lines(out, next, board, i, parts, reason)
+    last_lines(out, next, board, task, parts, reason)
 }
 
-// Puts the page of how the time of task i is made up at the start of the buffer.
-pub fn made_up_page(out: &mut [u8], board: &[u32], i: usize, made: MadeUp) -> usize
-    requires { ⌜ Printable (now board) i made × (512 ≤ length (now out)) ⌝ }
-    ensures { λ r. ⌜ Put (now (out .entry)) 0 (madeUpPage (now (board .entry)) i made) (now (out .exit)) r ⌝ }
+// Puts the page of how the time of a task is made up at the start of the buffer.
+pub fn made_up_page(out: &mut [u8], board: &[u32], task: usize, made: MadeUp) -> usize
+    requires { ⌜ Printable (now board) task made × (512 ≤ length (now out)) ⌝ }
+    ensures { λ r. ⌜ Put (now (out .entry)) 0 (madeUpPage (now (board .entry)) (task - 1) made) (now (out .exit)) r ⌝ }
 {
     match made {
-        MadeUp::Parts(parts, reason) => parts_page(out, board, i, parts, reason),
+        MadeUp::Parts(parts, reason) => parts_page(out, board, task, parts, reason),
         MadeUp::Spent => number_line(out, 0, b"spent", wide(fields::pass_limit(board))),
         MadeUp::Refused(number, place) => pair_line(out, 0, b"bad", number as u64, place as u64),
     }

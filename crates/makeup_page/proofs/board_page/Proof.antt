@@ -10,16 +10,15 @@ use Rattle.makeup_page.proofs.board_page.Tie as tie
 pub board-page-spec : {M : Type 1} → statement M
 board-page-spec =
     tie.close
-    (tie.spec (λ c κs. search needs) (λ c. search needs) (λ c. search needs) (λ c κs. search needs) (λ c κs. search needs)
+    (tie.spec (λ c κs. search needs) (λ c. search needs) (λ c. search needs) (λ c κs. search needs)
     (λ c κs.
-    let call = c .before .before .before .before .make-up-alone in
-    (rw (c .less .ensures) (make-up-printable _ _ _ _ _ (call .ensures .0) (call .ensures .1 .1 .1)), omega arith))
+    let call = c .before .before .before .make-up-alone in
+    (make-up-printable _ _ _ _ _ (call .ensures .0) (call .ensures .1 .1 .1), omega arith))
     (λ c. search needs)
     (λ c.
     let put = c .before .before in
-    let index = put .before in
-    let call = index .before .before .before .before in
+    let call = put .before .before .before .before in
     let number = call .before .before .before .number-in in (
-      put-same (boardMadeUp-is _ (number .ensures) (index .less .ensures) (call .make-up-alone .ensures .0)) (put .made-up-page .ensures),
+      put-same (boardMadeUp-is _ (number .ensures) (call .make-up-alone .ensures .0)) (put .made-up-page .ensures),
       put-counts (put .made-up-page .ensures),
     )))

@@ -15,11 +15,11 @@ made-up-page-spec =
     (λ c. search needs)
     (λ c κs.
     let start = c .before .before .before .before .before .before in
-    (printable-as (start .args .board .now) (start .args .i) (c .before .before .made .given .1) (start .pre .0), start .pre .1))
+    (printable-as (start .args .board .now) (start .args .task) (c .before .before .made .given .1) (start .pre .0), start .pre .1))
     (λ c. search needs) (λ c. search needs)
     (λ c κs.
     let start = c .before .before .before .before .before .before in
-    printable-as (start .args .board .now) (start .args .i) (c .before .before .enum-told .given .1) (start .pre .0))
+    printable-as (start .args .board .now) (start .args .task) (c .before .before .enum-told .given .1) (start .pre .0))
     (λ c κs. search needs) (λ c κs. search needs)
     (λ c. search needs) (λ c. search needs) (λ c κs. search needs)
     (λ c. search needs)
