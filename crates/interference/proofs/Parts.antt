@@ -17,14 +17,17 @@ pub total-listed : (p : SumParts) → p .work + p .higher + p .own + p .others +
 unfolding total sumTo
 total-listed p = omega arith
 
+-- part by part
+pub parts-are : {p q : SumParts} → p .work ≡ q .work → p .higher ≡ q .higher → p .own ≡ q .own → p .others ≡ q .others → p .blocking ≡ q .blocking
+    → p .refresh ≡ q .refresh → p ≡ q
+parts-are work higher own others blocking refresh =
+    λ k. record { work = work k; higher = higher k; own = own k; others = others k; blocking = blocking k; refresh = refresh k }
+
 module _ (b R : List ℕ) (i : ℕ) where
-  -- part by part
   pub sumParts-is : {p : SumParts} → p .work ≡ ownWork b R i → p .higher ≡ higherWork b R i → p .own ≡ ownAccessPart b R i
       → p .others ≡ interference b R i (bus b) * accessCycles b → p .blocking ≡ blockingPart b R i → p .refresh ≡ refreshPart b R i → p ≡ sumParts b R i
   unfolding sumParts
-  sumParts-is work higher own others blocking refresh =
-      let between = others ∙ interferencePart-is b R i in
-      λ k. record { work = work k; higher = higher k; own = own k; others = between k; blocking = blocking k; refresh = refresh k }
+  sumParts-is work higher own others blocking refresh = parts-are work higher own (others ∙ interferencePart-is b R i) blocking refresh
 
   -- as a list
   pub listed-parts : listed (sumParts b R i) ≡ sixParts b R i

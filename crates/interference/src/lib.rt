@@ -7,10 +7,10 @@ use terms::own::released;
 use terms::refresh::refreshes;
 use terms::rows::work;
 ghost use mathlib.Core.Path.{_≡_};
-ghost use Prim.Native.Nat.{_<_, _^_};
+ghost use Prim.Native.Nat.{_≤_, _<_, _^_};
 ghost use Rattle.sums.specs.SixParts.{total};
 ghost use Rattle.sums.specs.Inputs.{SumInput};
-ghost use Rattle.interference.specs.Parts.{sumParts, listed};
+ghost use Rattle.interference.specs.Parts.{sumParts, listed, picked};
 
 mod bus;
 
@@ -74,4 +74,17 @@ pub fn add_parts(parts: SumParts) -> u64
     ensures { λ r. ⌜ r ≡ total (listed parts) ⌝ }
 {
     parts.work + parts.higher + parts.own + parts.others + parts.blocking + parts.refresh
+}
+
+// The part at the index `which`, and the parts added up where that is 6.
+pub fn pick(parts: SumParts, which: usize) -> u64
+    requires { ⌜ (which ≤ 6) × (total (listed parts) < 2 ^ 64) ⌝ }
+    ensures { λ r. ⌜ r ≡ picked parts which ⌝ }
+{
+    if which == 6 {
+        add_parts(parts)
+    } else {
+        let all = six(parts);
+        all[which]
+    }
 }

@@ -6,7 +6,7 @@ use mathlib.Core.Bool.{true}
 use mathlib.Core.Path.{_≡_, refl, sym, ap, ap₂, subst, _∙_}
 use native.Mathlib.Nat.{add-comm, lt-of-le-of-lt, le-of-eq}
 use native.Mathlib.Omega.{arith}
-use lib.ListN.{length, getD, take, drop, length-drop}
+use lib.ListN.{length, getD, take, drop, replicate, length-drop}
 use lib.Seq.{length-take-le, getD-take, getD-drop}
 use Rattle.board.specs.Layout as at
 use Rattle.board.specs.Sound.{Sound}
@@ -16,7 +16,9 @@ use Rattle.figures.specs.Survey.{Held, Overheads}
 use Rattle.figures.proofs.Fillable.{held-tasks}
 use Rattle.figures.proofs.Bounds.{taskMD-bound, γ-bound}
 use Rattle.sums.specs.Sums.{memoryDemand}
-use Rattle.sums.specs.Chains.{Linked}
+use Rattle.sums.specs.Chains.{Chained, Linked}
+use Rattle.sums.specs.Limits.{mostCores}
+use Rattle.sums.proofs.Chains.{chained-none}
 use Rattle.sums.specs.Inputs.{Holds, CappedTimes, SumInput}
 use Rattle.sums.specs.SixParts.{total}
 use Rattle.sums.proofs.Bounds.{taskSum-bound}
@@ -36,6 +38,10 @@ passable room = record { sound = room .sound; tasks = room .tasks; words = omega
 
 pub passable-kept : {b : List ℕ} {n : ℕ} {w w' : List ℕ} → Passable b n w → length w' ≡ length w → Passable b n w'
 passable-kept room e = record { sound = room .sound; tasks = room .tasks; words = rw e (room .words) }
+
+-- what making the chains asks
+pub makeable : {b : List ℕ} {n : ℕ} {w : List ℕ} → Room b n w → (Sound b) × (n ≡ at.tasks b) × Chained b 0 (replicate (at.mostTasks + mostCores) 0)
+makeable {b} room = (room .sound, room .tasks, chained-none b)
 
 -- what a survey of every task asks
 pub surveyable : {b : List ℕ} {n : ℕ} {w : List ℕ} → Room b n w

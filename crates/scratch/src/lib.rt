@@ -3,15 +3,15 @@ use chains::CHAIN_WORDS;
 use figures::ECB_WORDS;
 use figures::row::place;
 use interference::SumParts;
-use interference::add_parts;
+use interference::pick;
 ghost use mathlib.Core.Path.{_≡_};
-ghost use Prim.Native.Nat.{_<_};
+ghost use Prim.Native.Nat.{_≤_, _<_};
 ghost use lib.ListN.{length};
 ghost use Rattle.figures.specs.Survey.{Held};
 ghost use Rattle.sums.specs.Sums.{taskSum};
 ghost use Rattle.sums.specs.Chains.{Linked};
 ghost use Rattle.sums.specs.Inputs.{CappedTimes};
-ghost use Rattle.interference.specs.Parts.{sumParts};
+ghost use Rattle.interference.specs.Parts.{sumParts, picked};
 ghost use Rattle.folds.specs.Stored.{Stored};
 ghost use Rattle.scratch.specs.Scratch.{Room, RowAddable, withMD, Addable, Added, Prepared};
 
@@ -58,7 +58,9 @@ pub fn sum_of(board: &[u32], n: usize, scratch: &[u32], times: &[u32], i: usize)
     requires { ⌜ (Prepared (now board) n (now scratch)) × (CappedTimes (now board) (now times)) × (i < n) ⌝ }
     ensures { λ r. ⌜ r ≡ taskSum (now (board .entry)) (now (times .entry)) i ⌝ }
 {
-    add_parts(parts_of(board, n, scratch, times, i))
+    let mut links = [0u32; CHAIN_WORDS];
+    chains::make(board, n, &mut links);
+    sum_along(board, n, &links, scratch, times, i)
 }
 
 // Its six parts.
@@ -83,10 +85,10 @@ pub fn sum_along(
     requires { ⌜ (Prepared (now board) n (now scratch)) × (CappedTimes (now board) (now times)) × (i < n) × Linked (now board) (now links) ⌝ }
     ensures { λ r. ⌜ r ≡ taskSum (now (board .entry)) (now (times .entry)) i ⌝ }
 {
-    add_parts(parts_along(board, n, links, scratch, times, i))
+    along(board, n, links, scratch, times, i, 6)
 }
 
-// The parts along such chains.
+// The parts along such chains, one after the other.
 fn parts_along(
     board: &[u32],
     n: usize,
@@ -98,9 +100,32 @@ fn parts_along(
     requires { ⌜ (Prepared (now board) n (now scratch)) × (CappedTimes (now board) (now times)) × (i < n) × Linked (now board) (now links) ⌝ }
     ensures { λ r. ⌜ r ≡ sumParts (now (board .entry)) (now (times .entry)) i ⌝ }
 {
+    SumParts {
+        work: along(board, n, links, scratch, times, i, 0),
+        higher: along(board, n, links, scratch, times, i, 1),
+        own: along(board, n, links, scratch, times, i, 2),
+        others: along(board, n, links, scratch, times, i, 3),
+        blocking: along(board, n, links, scratch, times, i, 4),
+        refresh: along(board, n, links, scratch, times, i, 5),
+    }
+}
+
+// The part of the sum of task i at the index `which`, and the sum where that is 6.
+fn along(
+    board: &[u32],
+    n: usize,
+    links: &[u32],
+    scratch: &[u32],
+    times: &[u32],
+    i: usize,
+    which: usize,
+) -> u64
+    requires { ⌜ (Prepared (now board) n (now scratch)) × (CappedTimes (now board) (now times)) × (i < n) × Linked (now board) (now links) × (which ≤ 6) ⌝ }
+    ensures { λ r. ⌜ r ≡ picked (sumParts (now (board .entry)) (now (times .entry)) i) which ⌝ }
+{
     let own = place(n, i);
     let all = place(n, n - 1);
-    interference::task_parts(
+    let parts = interference::task_parts(
         board,
         links,
         &scratch[2 * n..3 * n],
@@ -108,5 +133,6 @@ fn parts_along(
         &scratch[all..all + n],
         times,
         i,
-    )
+    );
+    pick(parts, which)
 }
