@@ -130,6 +130,21 @@ sumWhere-bound test f n m all = sumTo-bound _ n m (λ k h. onlyIf-bound (test k)
 pub sumWhere-zero : (test : ℕ → Bool) (f : ℕ → ℕ) (n : ℕ) → ((k : ℕ) → k < n → f k ≡ 0) → sumWhere test f n ≡ 0
 sumWhere-zero test f n all = omega (arith, sumWhere-bound test f n 0 (λ k h. omega (arith, all k h)))
 
+-- where nothing passes the test
+pub sumWhere-none : (test : ℕ → Bool) (f : ℕ → ℕ) (n : ℕ) → ((k : ℕ) → k < n → test k ≡ false) → sumWhere test f n ≡ 0
+sumWhere-none test f n never = sumTo-zero _ n (λ k h. ap (λ (t : Bool). onlyIf t (f k)) (never k h))
+
+-- one more that passes adds its own
+pub sumWhere-joined : (test test' : ℕ → Bool) (f : ℕ → ℕ) (n s : ℕ) → s < n → test s ≡ false → test' s ≡ true
+    → ((k : ℕ) → k < n → (k ≡ s → ⊥) → test' k ≡ test k) → sumWhere test' f n ≡ sumWhere test f n + f s
+sumWhere-joined test test' f n s l new own others =
+    omega (
+      arith,
+      sumTo-but (λ k. onlyIf (test k) (f k)) (λ k. onlyIf (test' k) (f k)) n s l (λ k h other. ap (λ (t : Bool). onlyIf t (f k)) (sym (others k h other))),
+      ap (λ (t : Bool). onlyIf t (f s)) new,
+      ap (λ (t : Bool). onlyIf t (f s)) own,
+    )
+
 -- ---- `maxTo`
 
 pub maxTo-none : (f : ℕ → ℕ) → maxTo f 0 ≡ 0

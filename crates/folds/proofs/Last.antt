@@ -2,7 +2,9 @@
 -- Assumes nothing.
 use Prim.Native.Nat.{ℕ, zero, suc, _+_, _-_, _≤_, _<_}
 use mathlib.Core.Bool.{Bool, true, false, cond}
+use mathlib.Core.Logic.{⊎-elim}
 use mathlib.Core.Path.{_≡_, refl, sym, ap, _∙_}
+use native.Mathlib.Nat.{eq-or-lt-of-le}
 use native.Mathlib.Numerals.{add-one}
 use native.Mathlib.Omega.{arith}
 use Rattle.folds.specs.Folds.{onlyIf, sumTo, sumWhere, lastTo}
@@ -42,6 +44,16 @@ module _ (test : ℕ → Bool) where
       go false p before q = before q
 
   -- none passes from there on
+  pub lastTo-after : (n k : ℕ) → lastTo test n ≤ k → k < n → test k ≡ false
+  unfolding lastTo
+  lastTo-after zero k low high = absurd (omega arith)
+  lastTo-after (suc n) k low high = go (test n) refl (lastTo-after n k) low
+    where
+      go : (t : Bool) → test n ≡ t → (lastTo test n ≤ k → k < n → test k ≡ false) → cond t (suc n) (lastTo test n) ≤ k → test k ≡ false
+      go true p before q = absurd (omega arith)
+      go false p before q =
+          ⊎-elim (λ (e : k ≡ n). ap test e ∙ p) (λ (less : k < n). before q less) (eq-or-lt-of-le (let h : k ≤ n = omega arith in h))
+
   pub lastTo-sum : (f : ℕ → ℕ) (n : ℕ) → sumWhere test f (lastTo test n) ≡ sumWhere test f n
   unfolding lastTo sumTo
   lastTo-sum f zero = refl
