@@ -1,28 +1,51 @@
--- Laws of a buffer of records: one record written holds its words, and every other is as it was.
+-- Laws of a buffer of records: what two of them have in common; one record written holds its words, and every other is as it was.
 -- Assumes nothing.
 use Prim.Native.Nat.{ℕ, _+_, _*_, _<_}
-use mathlib.Core.Path.{_≡_, refl, sym, ap, subst, _∙_}
-use mathlib.Core.Bool.{Bool, false}
+use mathlib.Core.Path.{_≡_, refl, sym, ap, ap₂, subst, _∙_}
+use mathlib.Core.Bool.{Bool, false, _&&_}
 use mathlib.Core.List.{List}
 use mathlib.Core.Logic.{⊎-elim}
 use native.Mathlib.Nat.{add-zero}
 use native.Mathlib.Decide.{ℕ-discrete}
 use native.Mathlib.Omega.{arith}
+use mir.Syntax.{w64}
+use mir.Val.{Fits}
+use lib.Bits.{bitAnd}
+use lib.Count.{ones}
 use lib.ListN.{length, getD, set}
-use Rattle.folds.specs.Folds.{tabulate}
+use Rattle.folds.specs.Folds.{countTo, tabulate}
 use Rattle.folds.specs.Stored.{Stored}
 use Rattle.folds.proofs.Numbers.{le-or-lt}
 use Rattle.folds.proofs.Lists.{getD-tabulate, tabulate-cong}
 use Rattle.folds.proofs.Stored.{stored-none, stored-next, stored-more, stored-same}
-use Rattle.bitset.specs.Bits.{setWord, wordsOf}
+use Rattle.bitset.specs.Bits.{member, setWord, wordsOf}
 use Rattle.bitset.specs.Records.{recordAt}
 use Rattle.bitset.proofs.Words.{wordOf-cong}
-use Rattle.bitset.proofs.Sets.{empty-words, wordsOf-at}
+use Rattle.bitset.proofs.Sets.{empty-words, wordsOf-at, both-words}
 
 -- ---- a record
 
 pub record-empty : (n : ℕ) (buffer : List ℕ) (q : ℕ) → ((k : ℕ) → k < n → getD buffer (n * q + k) 0 ≡ 0) → recordAt n buffer q ≡ wordsOf n (λ s. false)
 record-empty n buffer q none = tabulate-cong (λ k. getD buffer (n * q + k) 0) (λ k. 0) n none ∙ empty-words n
+
+-- how many numbers two records of four words have in common
+pub both-records : (ms ns : List ℕ) (i j : ℕ) → ((k : ℕ) → Fits w64 (getD ms k 0))
+    → ones (bitAnd (getD ms (4 * i) 0) (getD ns (4 * j) 0)) + ones (bitAnd (getD ms (4 * i + 1) 0) (getD ns (4 * j + 1) 0))
+    + ones (bitAnd (getD ms (4 * i + 2) 0) (getD ns (4 * j + 2) 0)) + ones (bitAnd (getD ms (4 * i + 3) 0) (getD ns (4 * j + 3) 0))
+    ≡ countTo (λ s. member (recordAt 4 ms i) s && member (recordAt 4 ns j) s) 256
+both-records ms ns i j fit =
+    omega (
+      arith,
+      common 0 (omega arith),
+      ap₂ (λ (p q : ℕ). ones (bitAnd (getD ms p 0) (getD ns q 0))) (add-zero (4 * i)) (add-zero (4 * j)),
+      common 1 (omega arith),
+      common 2 (omega arith),
+      common 3 (omega arith),
+      both-words (recordAt 4 ms i) (recordAt 4 ns j) (λ k h. subst (Fits w64) (sym (getD-tabulate (λ l. getD ms (4 * i + l) 0) 0 4 k h)) (fit (4 * i + k))),
+    )
+  where
+    common : (k : ℕ) → k < 4 → ones (bitAnd (getD (recordAt 4 ms i) k 0) (getD (recordAt 4 ns j) k 0)) ≡ ones (bitAnd (getD ms (4 * i + k) 0) (getD ns (4 * j + k) 0))
+    common k h = ap₂ (λ (x y : ℕ). ones (bitAnd x y)) (getD-tabulate (λ l. getD ms (4 * i + l) 0) 0 4 k h) (getD-tabulate (λ l. getD ns (4 * j + l) 0) 0 4 k h)
 
 -- four stores
 pub stored-four : (f : ℕ → ℕ) (at : ℕ) (w : List ℕ) → at + 3 < length w

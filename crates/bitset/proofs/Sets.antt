@@ -1,9 +1,9 @@
 -- Laws of words as a set of numbers: the words of a test, what each operation makes of them, and the count of two sets' common numbers.
 -- Assumes nothing.
 use mathlib.Core.Path.{_≡_, sym, ap, ap₂, _∙_}
-use mathlib.Core.Bool.{Bool, true, false, _&&_, _||_}
+use mathlib.Core.Bool.{Bool, false, _&&_, _||_}
 use mathlib.Core.List.{List}
-use Prim.Native.Nat.{ℕ, _+_, _-_, _*_, _/_, _%_, _^_, _<_}
+use Prim.Native.Nat.{ℕ, _+_, _*_, _/_, _%_, _^_, _<_}
 use native.Mathlib.Nat.{lt-of-le-of-lt}
 use native.Mathlib.Omega.{arith}
 use native.Mathlib.Decide.{ℕ-discrete}
@@ -20,7 +20,7 @@ use Rattle.folds.proofs.Numbers.{eqb-iff}
 use Rattle.folds.proofs.Folds.{countTo-none, countTo-cong, countTo-split}
 use Rattle.folds.proofs.Lists.{getD-set-all, length-tabulate, getD-tabulate, tabulate-cong}
 use Rattle.bitset.specs.Bits.{bit, member, setWord, wordsOf}
-use Rattle.bitset.proofs.Words.{bit-none, bit-all, bit-or, bit-and, oneAt, bit-oneAt, ones-count, bit-wordOf, wordOf-is, wordOf-cong}
+use Rattle.bitset.proofs.Words.{bit-none, bit-or, bit-and, oneAt, bit-oneAt, ones-count, bit-wordOf, wordOf-is, wordOf-cong}
 
 -- ---- the words of a test
 
@@ -69,13 +69,10 @@ words-ext n ws test size fit same =
     wordOf-is 64 (getD ws i 0) (λ j. test (64 * i + j)) (fit i .fits) (λ j l. sym (member-at ws i j l) ∙ same (64 * i + j) (omega arith))
     ∙ sym (wordsOf-at n test i low))
 
--- ---- none, all, and those of two sets
+-- ---- none, and those of two sets
 
 pub empty-words : (n : ℕ) → tabulate (λ i. 0) n ≡ wordsOf n (λ t. false)
 empty-words n = wordsOf-each n (λ i. 0) (λ t. false) (λ i h. wordOf-is 64 0 (λ j. false) (omega arith) (λ j l. bit-none j))
-
-pub full-words : (n : ℕ) → tabulate (λ i. 18446744073709551615) n ≡ wordsOf n (λ t. true)
-full-words n = wordsOf-each n (λ i. 18446744073709551615) (λ t. true) (λ i h. wordOf-is 64 18446744073709551615 (λ j. true) (omega arith) (λ j l. bit-all j l))
 
 pub union-words : (n : ℕ) (ms ns : List ℕ) → ((k : ℕ) → Fits w64 (getD ms k 0)) → ((k : ℕ) → Fits w64 (getD ns k 0))
     → tabulate (λ i. bitOr (getD ms i 0) (getD ns i 0)) n ≡ wordsOf n (λ t. member ms t || member ns t)
@@ -131,7 +128,15 @@ module _ (ms ns : List ℕ) where
       (λ j k. bit-and (getD ms i 0) (getD ns i 0) j ∙ ap₂ _&&_ (sym (member-at ms i j k)) (sym (member-at ns i j k))) in
       omega (arith, word, countTo-split both (64 * i) 64)
 
-  pub both-words : ((k : ℕ) → Fits w64 (getD ms k 0))
+  pub both-words : ((k : ℕ) → k < 4 → Fits w64 (getD ms k 0))
       → ones (bitAnd (getD ms 0 0) (getD ns 0 0)) + ones (bitAnd (getD ms 1 0) (getD ns 1 0)) + ones (bitAnd (getD ms 2 0) (getD ns 2 0))
       + ones (bitAnd (getD ms 3 0) (getD ns 3 0)) ≡ countTo (λ s. member ms s && member ns s) 256
-  both-words fit = omega (arith, countTo-none both, both-next 0 (fit 0), both-next 1 (fit 1), both-next 2 (fit 2), both-next 3 (fit 3))
+  both-words fit =
+      omega (
+        arith,
+        countTo-none both,
+        both-next 0 (fit 0 (omega arith)),
+        both-next 1 (fit 1 (omega arith)),
+        both-next 2 (fit 2 (omega arith)),
+        both-next 3 (fit 3 (omega arith)),
+      )

@@ -4,27 +4,21 @@ pub mod records;
 pub mod word;
 
 ghost use mathlib.Core.Path.{_≡_};
-ghost use mathlib.Core.Bool.{_&&_, _||_, false, true};
-ghost use Prim.Native.Nat.{ℕ, _<_, _≤_};
+ghost use mathlib.Core.Bool.{_&&_, _||_, false};
+ghost use Prim.Native.Nat.{ℕ, _+_, _*_, _<_, _≤_};
 ghost use lib.Dec.{eqb};
 ghost use lib.Bits.{bitAnd};
 ghost use lib.Count.{ones};
-ghost use lib.ListN.{length};
+ghost use lib.ListN.{length, getD};
 ghost use Rattle.folds.specs.Folds.{countTo};
 ghost use Rattle.bitset.specs.Bits.{member, wordsOf};
+ghost use Rattle.bitset.specs.Records.{recordAt};
 
 // The set with nothing in it.
 pub fn empty() -> [u64; 8]
     ensures { λ r. ⌜ r ≡ wordsOf 8 (λ (t : ℕ). false) ⌝ }
 {
     [0u64; 8]
-}
-
-// The set of all numbers below 512.
-pub fn full() -> [u64; 8]
-    ensures { λ r. ⌜ r ≡ wordsOf 8 (λ (t : ℕ). true) ⌝ }
-{
-    [18446744073709551615u64; 8]
 }
 
 // Adds s to a set that is lent.
@@ -53,20 +47,24 @@ pub fn union(a: [u64; 8], b: [u64; 8]) -> [u64; 8]
     ]
 }
 
-// How many bits are set in both words.
-fn ones_of_both(x: u64, y: u64) -> u32
-    ensures { λ r. ⌜ (r ≡ ones (bitAnd x y)) × (r ≤ 64) ⌝ }
+// How many bits are set both in word i of a and in word j of b.
+fn ones_of_both(a: &[u64], i: usize, b: &[u64], j: usize) -> u32
+    requires { ⌜ (i < length (now a)) × (j < length (now b)) ⌝ }
+    ensures { λ r. ⌜ (r ≡ ones (bitAnd (getD (now (a .entry)) i 0) (getD (now (b .entry)) j 0))) × (r ≤ 64) ⌝ }
 {
-    u64::count_ones(x & y)
+    u64::count_ones(a[i] & b[j])
 }
 
-// How many numbers are in both of two sets of four words, which hold numbers below 256.
-pub fn count_both(a: [u64; 4], b: [u64; 4]) -> u32
-    ensures { λ r. ⌜ (r ≡ countTo (λ (s : ℕ). member a s && member b s) 256) × (r ≤ 256) ⌝ }
+// How many numbers below 256 are in both of two sets of four words, which are read where they stand: from 4i on in a, and from 4j on in b.
+pub fn count_both(a: &[u64], i: usize, b: &[u64], j: usize) -> u32
+    requires { ⌜ (4 * i + 3 < length (now a)) × (4 * j + 3 < length (now b)) ⌝ }
+    ensures { λ r. ⌜ (r ≡ countTo (λ (s : ℕ). member (recordAt 4 (now (a .entry)) i) s && member (recordAt 4 (now (b .entry)) j) s) 256) × (r ≤ 256) ⌝ }
 {
-    let p = ones_of_both(a[0], b[0]);
-    let q = ones_of_both(a[1], b[1]);
-    let r = ones_of_both(a[2], b[2]);
-    let s = ones_of_both(a[3], b[3]);
+    let x = 4 * i;
+    let y = 4 * j;
+    let p = ones_of_both(a, x, b, y);
+    let q = ones_of_both(a, x + 1, b, y + 1);
+    let r = ones_of_both(a, x + 2, b, y + 2);
+    let s = ones_of_both(a, x + 3, b, y + 3);
     p + q + r + s
 }

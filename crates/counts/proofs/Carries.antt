@@ -20,13 +20,10 @@ use Rattle.bitset.specs.Bits.{bit, wordOf}
 use Rattle.bitset.proofs.Words.{bit-none, bit-and, bit-xor, bit-wordOf}
 use Rattle.counts.specs.Planes.{setsOf, inPlane, countOf, largest}
 use Rattle.counts.specs.Turns.{adds, takes, Passed}
+use Rattle.counts.specs.Carries.{Moved, carried, moves, falls, moved, Rippled}
 use Rattle.counts.proofs.Planes.{same-plane, weight, count-sum, count-below, largest-power}
 
--- ---- one number: it was `old` and is `new`, with a carry in of `first` and one that still stands, of weight k, of `rest`
-
-abbrev Moved : Bool → Bool → Bool → ℕ → ℕ → ℕ → Type 0
-Moved down first rest k old new =
-    new + onlyIf (not down && rest) k + onlyIf (down && first) 1 ≡ old + onlyIf (down && rest) k + onlyIf (not down && first) 1
+-- ---- one number
 
 moved-start : (down first : Bool) (old : ℕ) → Moved down first first 1 old old
 moved-start true first old = omega arith
@@ -61,10 +58,6 @@ moved-end false true true most old new low room some l m = absurd (omega (arith,
 moved-end false false true most old new low room some l m = absurd (omega arith)
 
 -- ---- the carries of one word of each plane
-
--- whether a carry of word `at` goes into the number of set s
-abbrev carried : ℕ → ℕ → ℕ → Bool
-carried carry at s = eqb (s / 64) at && bit carry (s % 64)
 
 module _ (c : ℕ) (live : List ℕ) (i at carry : ℕ) (room : 4 * (i * c) + at < length live) (near : at < 4 * c) where
   abbrev word : ℕ
@@ -125,20 +118,6 @@ module _ (c : ℕ) (live : List ℕ) (i at carry : ℕ) (room : 4 * (i * c) + at
       omega (arith, but, was, is, count-sum c next 0 n s, count-sum c live 0 n s)
 
 -- ---- the code: after i planes the numbers have moved but for the carries
-
-abbrev pub moves : ℕ → Bool
-moves mark = eqb (mark % 4) 1 || eqb (mark % 4) 2
-
-abbrev pub falls : ℕ → Bool
-falls mark = eqb (mark % 4) 2
-
--- the set of the mark, where it moves
-abbrev moved : ℕ → ℕ → Bool
-moved mark s = eqb (mark / 4) s && moves mark
-
-abbrev pub Rippled : ℕ → ℕ → ℕ → ℕ → List ℕ → ℕ → ℕ → List ℕ → Type 0
-Rippled c planes mark at live₀ i carry live =
-    (s : ℕ) → s < setsOf c → Moved (falls mark) (moved mark s) (carried carry at s) (2 ^ i) (countOf c live₀ 0 planes s) (countOf c live 0 planes s)
 
 -- before the first plane: the carry of the mark's set alone
 pub ripple-start : (c planes mark at : ℕ) (live : List ℕ) (carry : ℕ) → at ≡ mark / 256 → carry ≡ wordOf (λ t. eqb t (mark / 4 % 64) && moves mark) 64

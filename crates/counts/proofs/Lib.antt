@@ -1,4 +1,3 @@
--- The laws of numbers kept bit by bit: their sums, the carry of a mark, and records of them.
+-- The laws of numbers kept bit by bit: their sums, and the carry of a mark.
 pub mod Planes
 pub mod Carries
-pub mod Buffers

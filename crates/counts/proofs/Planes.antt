@@ -1,21 +1,22 @@
--- The numbers of sets as sums over planes, how large they are, and the sum of the numbers of given sets, plane by plane.
+-- The numbers of sets as sums over planes, how large they are, and their sum over given sets, plane by plane.
 -- Assumes nothing.
 use Prim.Native.Nat.{ℕ, zero, suc, _+_, _-_, _*_, _/_, _%_, _^_, _≤_, _<_}
 use mathlib.Core.Bool.{Bool, true, false, _&&_}
 use mathlib.Core.List.{List}
 use mathlib.Core.Logic.{⊎-elim}
 use mathlib.Core.Path.{_≡_, refl, sym, ap, ap₂, _∙_}
-use native.Mathlib.Nat.{le-refl, mul-le-mul, suc-mul, add-zero, zero-add, pow-suc, eq-or-lt-of-le}
+use native.Mathlib.Nat.{le-refl, mul-le-mul, suc-mul, add-zero, pow-suc, eq-or-lt-of-le}
 use native.Mathlib.Omega.{arith}
 use lib.ListN.{getD}
 use Rattle.folds.specs.Folds.{onlyIf, sumTo, sumWhere, countTo}
 use Rattle.folds.proofs.Numbers.{le-or-lt, onlyIf-bound, onlyIf-zero}
-use Rattle.folds.proofs.Folds.{sumTo-none, sumTo-next, sumTo-zero, sumTo-cong, sumTo-first, sumTo-add, sumTo-scale, sumWhere-bound, countTo-cong, countTo-split}
+use Rattle.folds.proofs.Folds.{sumTo-none, sumTo-zero, sumTo-cong, sumTo-first, sumTo-add, sumTo-scale, sumWhere-bound, sumWhere-none, sumWhere-joined, sumWhere-rise, countTo-cong, countTo-split}
 use Rattle.folds.proofs.Lists.{getD-tabulate}
 use Rattle.bitset.specs.Bits.{bit, member}
 use Rattle.bitset.specs.Records.{recordAt}
 use Rattle.bitset.proofs.Words.{bit-none}
 use Rattle.counts.specs.Planes.{setsOf, inPlane, countOf, largest}
+use Rattle.counts.specs.Counted.{countBy, Counted}
 
 -- record q of n lies before those from m on
 pub apart : (q m n : ℕ) → q < m → q * n + n ≤ m * n
@@ -29,40 +30,45 @@ same-plane c i j k l hk hl e =
     ⊎-elim (λ (h : i ≤ j). ⊎-elim (λ (q : i ≡ j). q) (λ (less : i < j). absurd (omega (arith, apart i j c less))) (eq-or-lt-of-le h))
     (λ (less : j < i). absurd (omega (arith, apart j i c less))) (le-or-lt i j)
 
--- four words as a set
-quad-member : (words : List ℕ) (q s : ℕ) → s < 256 → member (recordAt 4 words q) s ≡ bit (getD words (4 * q + s / 64) 0) (s % 64)
-unfolding member
-quad-member words q s h = ap (λ (w : ℕ). bit w (s % 64)) (getD-tabulate (λ k. getD words (4 * q + k) 0) 0 4 (s / 64) (omega arith))
-
--- what a plane has in common with given sets, four words at a time
+-- what a plane has in common with the sets of a record, four words at a time
 abbrev quadCommon : List ℕ → ℕ → List ℕ → ℕ → ℕ
-quadCommon words q sets k = countTo (λ s. member (recordAt 4 words q) s && member (recordAt 4 sets k) s) 256
+quadCommon live q ecbs k = countTo (λ s. member (recordAt 4 live q) s && member (recordAt 4 ecbs k) s) 256
 
-abbrev pub planeCommon : ℕ → List ℕ → ℕ → List ℕ → ℕ
-planeCommon c words i sets = countTo (λ s. inPlane c words i s && member sets s) (setsOf c)
+abbrev pub planeCommon : ℕ → List ℕ → ℕ → List ℕ → ℕ → ℕ
+planeCommon c live i ecbs j = countTo (λ s. inPlane c live i s && member (recordAt 8 ecbs j) s) (setsOf c)
 
-module _ (words : List ℕ) (i : ℕ) (sets : List ℕ) where
-  pub common-one : quadCommon words (i * 1) sets 0 ≡ planeCommon 1 words i sets
-  unfolding member
-  common-one =
-      countTo-cong _ _ 256
-      (λ s h. ap₂ _&&_ (quad-member words (i * 1) s h) (quad-member sets 0 s h ∙ ap (λ (k : ℕ). bit (getD sets k 0) (s % 64)) (zero-add (s / 64))))
+-- a record of n words as a set
+record-member : (n : ℕ) (words : List ℕ) (q s : ℕ) → s < 64 * n → member (recordAt n words q) s ≡ bit (getD words (n * q + s / 64) 0) (s % 64)
+unfolding member
+record-member n words q s h = ap (λ (w : ℕ). bit w (s % 64)) (getD-tabulate (λ k. getD words (n * q + k) 0) 0 n (s / 64) (omega arith))
 
-  pub common-two : (m n : ℕ) → m ≡ quadCommon words (i * 2) sets 0 → n ≡ quadCommon words (i * 2 + 1) sets 1 → m + n ≡ planeCommon 2 words i sets
-  unfolding member
+module _ (live : List ℕ) (i : ℕ) (ecbs : List ℕ) (j : ℕ) where
+  -- the halves of a record
+  low-half : (s : ℕ) → s < 256 → member (recordAt 4 ecbs (2 * j)) s ≡ member (recordAt 8 ecbs j) s
+  low-half s h =
+      let word : 4 * (2 * j) + s / 64 ≡ 8 * j + s / 64 = omega arith in
+      record-member 4 ecbs (2 * j) s h ∙ ap (λ (k : ℕ). bit (getD ecbs k 0) (s % 64)) word ∙ sym (record-member 8 ecbs j s (omega arith))
+
+  high-half : (s : ℕ) → s < 256 → member (recordAt 4 ecbs (2 * j + 1)) s ≡ member (recordAt 8 ecbs j) (256 + s)
+  high-half s h =
+      let word : 4 * (2 * j + 1) + s / 64 ≡ 8 * j + (256 + s) / 64 = omega arith in
+      let rest : s % 64 ≡ (256 + s) % 64 = omega arith in
+      record-member 4 ecbs (2 * j + 1) s h ∙ ap₂ (λ (k l : ℕ). bit (getD ecbs k 0) l) word rest ∙ sym (record-member 8 ecbs j (256 + s) (omega arith))
+
+  pub common-one : quadCommon live (i * 1) ecbs (2 * j) ≡ planeCommon 1 live i ecbs j
+  common-one = countTo-cong _ _ 256 (λ s h. ap₂ _&&_ (record-member 4 live (i * 1) s h) (low-half s h))
+
+  pub common-two : (m n : ℕ) → m ≡ quadCommon live (i * 2) ecbs (2 * j) → n ≡ quadCommon live (i * 2 + 1) ecbs (2 * j + 1) → m + n ≡ planeCommon 2 live i ecbs j
   common-two m n low high =
-      let both : ℕ → Bool = λ s. inPlane 2 words i s && member sets s in
-      let first : quadCommon words (i * 2) sets 0 ≡ countTo both 256 =
-      countTo-cong _ both 256
-      (λ s h. ap₂ _&&_ (quad-member words (i * 2) s h) (quad-member sets 0 s h ∙ ap (λ (k : ℕ). bit (getD sets k 0) (s % 64)) (zero-add (s / 64)))) in
-      let second : quadCommon words (i * 2 + 1) sets 1 ≡ countTo (λ s. both (256 + s)) 256 =
+      let both : ℕ → Bool = λ s. inPlane 2 live i s && member (recordAt 8 ecbs j) s in
+      let first : quadCommon live (i * 2) ecbs (2 * j) ≡ countTo both 256 =
+      countTo-cong _ both 256 (λ s h. ap₂ _&&_ (record-member 4 live (i * 2) s h) (low-half s h)) in
+      let second : quadCommon live (i * 2 + 1) ecbs (2 * j + 1) ≡ countTo (λ s. both (256 + s)) 256 =
       countTo-cong _ (λ s. both (256 + s)) 256
       (λ s h.
       let word : 4 * (i * 2 + 1) + s / 64 ≡ 4 * (i * 2) + (256 + s) / 64 = omega arith in
-      let own : 4 * 1 + s / 64 ≡ (256 + s) / 64 = omega arith in
       let rest : s % 64 ≡ (256 + s) % 64 = omega arith in
-      ap₂ _&&_ (quad-member words (i * 2 + 1) s h ∙ ap₂ (λ (k j : ℕ). bit (getD words k 0) j) word rest)
-      (quad-member sets 1 s h ∙ ap₂ (λ (k j : ℕ). bit (getD sets k 0) j) own rest)) in
+      ap₂ _&&_ (record-member 4 live (i * 2 + 1) s h ∙ ap₂ (λ (k l : ℕ). bit (getD live k 0) l) word rest) (high-half s h)) in
       omega (arith, low, high, first, second, countTo-split both 256 256)
 
 -- ---- a number as a sum over its planes
@@ -90,38 +96,10 @@ count-sum c words from (suc n) s =
     double true k = refl
     double false k = refl
 
--- a plane more that is empty
-pub count-top : (c : ℕ) (words : List ℕ) (from n s : ℕ) → inPlane c words (from + n) s ≡ false → countOf c words from (n + 1) s ≡ countOf c words from n s
-count-top c words from n s e =
-    let none : weight c words from s n ≡ 0 = ap (λ (t : Bool). onlyIf t (2 ^ n)) e in
-    omega (arith, count-sum c words from (n + 1) s, count-sum c words from n s, sumTo-next (weight c words from s) n, none)
-
--- four words that are 0
-pub four-words : (words : List ℕ) (at : ℕ) → getD words at 0 ≡ 0 → getD words (at + 1) 0 ≡ 0 → getD words (at + 2) 0 ≡ 0 → getD words (at + 3) 0 ≡ 0
-    → (k : ℕ) → k < 4 → getD words (at + k) 0 ≡ 0
-four-words words at a b c d zero h = ap (λ (k : ℕ). getD words k 0) (add-zero at) ∙ a
-four-words words at a b c d (suc zero) h = b
-four-words words at a b c d (suc (suc zero)) h = c
-four-words words at a b c d (suc (suc (suc zero))) h = d
-four-words words at a b c d (suc (suc (suc (suc k)))) h = absurd (omega arith)
-
+-- a plane whose words are 0
 pub plane-empty : (c : ℕ) (words : List ℕ) (i : ℕ) → ((k : ℕ) → k < 4 * c → getD words (4 * (i * c) + k) 0 ≡ 0)
     → (s : ℕ) → s < setsOf c → inPlane c words i s ≡ false
 plane-empty c words i none s h = ap (λ (w : ℕ). bit w (s % 64)) (none (s / 64) (omega arith)) ∙ bit-none (s % 64)
-
--- the words of one cache, and of two
-pub empty-one : (words : List ℕ) (i : ℕ) → ((k : ℕ) → k < 4 → getD words (4 * (i * 1) + k) 0 ≡ 0) → (s : ℕ) → s < setsOf 1 → inPlane 1 words i s ≡ false
-empty-one words i none = plane-empty 1 words i (λ k h. none k (omega arith))
-
-pub empty-two : (words : List ℕ) (i : ℕ) → ((k : ℕ) → k < 4 → getD words (4 * (i * 2) + k) 0 ≡ 0)
-    → ((k : ℕ) → k < 4 → getD words (4 * (i * 2 + 1) + k) 0 ≡ 0) → (s : ℕ) → s < setsOf 2 → inPlane 2 words i s ≡ false
-empty-two words i low high =
-    plane-empty 2 words i
-    (λ k h.
-    ⊎-elim
-    (λ (l : 4 ≤ k). ap (λ (p : ℕ). getD words p 0) (let e : 4 * (i * 2) + k ≡ 4 * (i * 2 + 1) + (k - 4) = omega arith in e) ∙ high (k - 4) (omega arith))
-    (λ (l : k < 4). low k l)
-    (le-or-lt 4 k))
 
 -- words that are 0 have no number
 pub count-none : (c : ℕ) (words : List ℕ) → ((k : ℕ) → getD words k 0 ≡ 0) → (from n s : ℕ) → s < setsOf c → countOf c words from n s ≡ 0
@@ -129,12 +107,6 @@ unfolding countOf
 count-none c words none from zero s h = refl
 count-none c words none from (suc n) s h =
     omega (arith, ap (λ (t : Bool). onlyIf t 1) (plane-empty c words from (λ k l. none (4 * (from * c) + k)) s h), count-none c words none (suc from) n s h)
-
--- planes that agree
-pub count-agree : (c : ℕ) (words words' : List ℕ) (from from' n s : ℕ) → ((j : ℕ) → j < n → inPlane c words' (from' + j) s ≡ inPlane c words (from + j) s)
-    → countOf c words' from' n s ≡ countOf c words from n s
-count-agree c words words' from from' n s same =
-    count-sum c words' from' n s ∙ sumTo-cong _ _ n (λ j h. ap (λ (t : Bool). onlyIf t (2 ^ j)) (same j h)) ∙ sym (count-sum c words from n s)
 
 -- ---- how large the numbers are
 
@@ -155,26 +127,26 @@ largest-few (suc (suc (suc zero))) h = omega arith
 largest-few (suc (suc (suc (suc zero)))) h = omega arith
 largest-few (suc (suc (suc (suc (suc n))))) h = absurd (omega arith)
 
-pub sum-bound : (c : ℕ) (words : List ℕ) (test : ℕ → Bool) (from n : ℕ) → c ≤ 2 → n ≤ 4 → sumWhere test (countOf c words from n) (setsOf c) ≤ 7680
-sum-bound c words test from n k h =
-    omega (arith, sumWhere-bound test (countOf c words from n) (setsOf c) 15 (λ s l. omega (arith, count-below c words from n s, largest-few n h)))
+pub count-bound : (c : ℕ) (live : List ℕ) (test : ℕ → Bool) (from n : ℕ) → c ≤ 2 → n ≤ 4 → sumWhere test (countOf c live from n) (setsOf c) ≤ 7680
+count-bound c live test from n k h =
+    omega (arith, sumWhere-bound test (countOf c live from n) (setsOf c) 15 (λ s l. omega (arith, count-below c live from n s, largest-few n h)))
 
 -- ---- one plane more
 
-module _ (c : ℕ) (words : List ℕ) (test : ℕ → Bool) where
-  pub sum-none : (from : ℕ) → sumWhere test (countOf c words from 0) (setsOf c) ≡ 0
+module _ (c : ℕ) (live : List ℕ) (test : ℕ → Bool) where
+  pub sum-none : (from : ℕ) → sumWhere test (countOf c live from 0) (setsOf c) ≡ 0
   unfolding countOf
   sum-none from = sumTo-zero (λ s. onlyIf (test s) 0) (setsOf c) (λ s h. onlyIf-zero (test s) 0 refl)
 
   sum-plane : (from n : ℕ)
-      → sumWhere test (countOf c words from (suc n)) (setsOf c) ≡ 2 * sumWhere test (countOf c words (suc from) n) (setsOf c) + countTo (λ s. inPlane c words from s && test s) (setsOf c)
+      → sumWhere test (countOf c live from (suc n)) (setsOf c) ≡ 2 * sumWhere test (countOf c live (suc from) n) (setsOf c) + countTo (λ s. inPlane c live from s && test s) (setsOf c)
   unfolding countOf countTo
   sum-plane from n =
       omega (
         arith,
-        sumTo-cong _ _ (setsOf c) (λ s h. parts (test s) (inPlane c words from s) (countOf c words (suc from) n s)),
-        sumTo-add (λ s. onlyIf (inPlane c words from s && test s) 1) (λ s. onlyIf (test s) (countOf c words (suc from) n s) * 2) (setsOf c),
-        sumTo-scale (λ s. onlyIf (test s) (countOf c words (suc from) n s)) 2 (setsOf c),
+        sumTo-cong _ _ (setsOf c) (λ s h. parts (test s) (inPlane c live from s) (countOf c live (suc from) n s)),
+        sumTo-add (λ s. onlyIf (inPlane c live from s && test s) 1) (λ s. onlyIf (test s) (countOf c live (suc from) n s) * 2) (setsOf c),
+        sumTo-scale (λ s. onlyIf (test s) (countOf c live (suc from) n s)) 2 (setsOf c),
       )
     where
       parts : (t b : Bool) (k : ℕ) → onlyIf t (onlyIf b 1 + 2 * k) ≡ onlyIf (b && t) 1 + onlyIf t k * 2
@@ -184,15 +156,45 @@ module _ (c : ℕ) (words : List ℕ) (test : ℕ → Bool) where
       parts false false k = omega arith
 
   -- the code goes over the planes from the last to the first
-  pub plane-on : (from planes j : ℕ) → j < planes → (sum n : ℕ) → sum ≡ sumWhere test (countOf c words (from + (j + 1)) (planes - (j + 1))) (setsOf c)
-      → n ≡ countTo (λ s. inPlane c words (from + j) s && test s) (setsOf c) → 2 * sum + n ≡ sumWhere test (countOf c words (from + j) (planes - j)) (setsOf c)
-  plane-on from planes j h sum n e k =
-      let next : from + (j + 1) ≡ suc (from + j) = omega arith in
-      let more : planes - j ≡ suc (planes - (j + 1)) = omega arith in
+  pub plane-on : (planes i : ℕ) → i < planes → (sum n : ℕ) → sum ≡ sumWhere test (countOf c live (i + 1) (planes - (i + 1))) (setsOf c)
+      → n ≡ countTo (λ s. inPlane c live i s && test s) (setsOf c) → 2 * sum + n ≡ sumWhere test (countOf c live i (planes - i)) (setsOf c)
+  plane-on planes i h sum n e k =
+      let next : i + 1 ≡ suc i = omega arith in
+      let more : planes - i ≡ suc (planes - (i + 1)) = omega arith in
       omega (
         arith,
-        e ∙ ap (λ (i : ℕ). sumWhere test (countOf c words i (planes - (j + 1))) (setsOf c)) next,
+        e ∙ ap (λ (from : ℕ). sumWhere test (countOf c live from (planes - (i + 1))) (setsOf c)) next,
         k,
-        sum-plane (from + j) (planes - (j + 1)),
-        ap (λ (m : ℕ). sumWhere test (countOf c words (from + j) m) (setsOf c)) more,
+        sum-plane i (planes - (i + 1)),
+        ap (λ (m : ℕ). sumWhere test (countOf c live i m) (setsOf c)) more,
       )
+
+-- ---- the sum over the sets of an ECB
+
+-- what is promised of it: no set, and one set more
+pub counted : (c : ℕ) (live : List ℕ) (planes : ℕ) (ecb : List ℕ) (r : ℕ) → r ≡ sumWhere (member ecb) (countOf c live 0 planes) (setsOf c) → Counted c live planes ecb r
+unfolding countBy
+counted c live planes ecb r e = record {
+  is = e;
+  none = λ never. e ∙ sumWhere-none (member ecb) (countOf c live 0 planes) (setsOf c) never;
+  joined = λ s before joins.
+      e ∙ sumWhere-joined (member before) (member ecb) (countOf c live 0 planes) (setsOf c) s (joins .set) (joins .new) (joins .own) (joins .others);
+}
+
+-- two tests that agree, and one that passes more
+pub countBy-cong : (c : ℕ) (live : List ℕ) (planes : ℕ) (test test' : ℕ → Bool) → ((s : ℕ) → s < setsOf c → test s ≡ test' s)
+    → countBy c live planes test ≡ countBy c live planes test'
+unfolding countBy
+countBy-cong c live planes test test' same =
+    sumTo-cong _ _ (setsOf c) (λ s h. ap (λ (t : Bool). onlyIf t (countOf c live 0 planes s)) (same s h))
+
+pub countBy-rise : (c : ℕ) (live : List ℕ) (planes : ℕ) (test test' : ℕ → Bool) → ((s : ℕ) → s < setsOf c → test s ≡ true → test' s ≡ true)
+    → countBy c live planes test ≤ countBy c live planes test'
+unfolding countBy
+countBy-rise c live planes test test' more =
+    sumWhere-rise test test' (countOf c live 0 planes) (countOf c live 0 planes) (setsOf c) (setsOf c) (le-refl (setsOf c))
+    (λ s l e. (more s l e, le-refl (countOf c live 0 planes s)))
+
+pub countBy-bound : (c : ℕ) (live : List ℕ) (planes : ℕ) (test : ℕ → Bool) → c ≤ 2 → planes ≤ 4 → countBy c live planes test ≤ 7680
+unfolding countBy
+countBy-bound c live planes test = count-bound c live test 0 planes

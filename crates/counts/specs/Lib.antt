@@ -1,4 +1,5 @@
--- Numbers kept bit by bit, what a mark does to them, and records of them in a buffer.
+-- Numbers kept bit by bit, what a mark does to them, and their sum over the sets of an ECB.
 pub mod Planes
 pub mod Turns
-pub mod Records
+pub mod Carries
+pub mod Counted

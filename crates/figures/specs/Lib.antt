@@ -3,4 +3,5 @@ pub mod Ready
 pub mod Figures
 pub mod Overhead
 pub mod Rows
+pub mod Higher
 pub mod Survey

@@ -29,9 +29,13 @@ onCore b x h s = eqb (core b h) x && evicting b h s
 unfoldable pub Cores : List ℕ → ℕ → List ℕ → Type 0
 Cores b j sets = (x : ℕ) → x ≤ 8 → recordAt 8 sets x ≡ wordsOf 8 (λ s. anyTo (λ h. onCore b x h s) j)
 
+-- tasks i and j are on one core
+abbrev pub sameCore : List ℕ → ℕ → ℕ → Bool
+sameCore b i j = eqb (core b i) (core b j)
+
 -- f j for each task j on the core of task i, and 0 for the others
 abbrev pub onCoreOf : List ℕ → ℕ → (ℕ → ℕ) → ℕ → ℕ
-onCoreOf b i f j = onlyIf (eqb (core b i) (core b j)) (f j)
+onCoreOf b i f j = onlyIf (sameCore b i j) (f j)
 
 -- the first i words of a row, each raised to f j where that is larger
 abbrev pub raised : (ℕ → ℕ) → ℕ → List ℕ → List ℕ

@@ -1,4 +1,5 @@
 // The figures of a task, and the pre-emption overhead.
+pub mod higher;
 pub mod row;
 
 use bitset::records::four;

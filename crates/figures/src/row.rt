@@ -1,23 +1,21 @@
 // A row of overheads: word j has γ(i, j) of the task i at hand.
 use super::ECB_WORDS;
-use bitset::full;
-use bitset::records::read;
-use board::fields;
-use counts::needed::needed;
-use counts::records::most_common;
+use counts::count_in;
+use folds::index;
 use folds::larger;
 ghost use mathlib.Core.Path.{_≡_};
-ghost use mathlib.Core.Bool.{true, false};
-ghost use Prim.Native.Nat.{ℕ, _+_, _*_, _<_, _≤_};
-ghost use lib.Dec.{eqb};
-ghost use lib.ListN.{length};
+ghost use Prim.Native.Nat.{ℕ, _+_, _*_, _<_, _≤_, max};
+ghost use lib.ListN.{length, getD, set};
 ghost use Rattle.folds.specs.Folds.{onlyIf};
-ghost use Rattle.board.specs.Layout.{core, mostTasks, scratchWords, mostScratch};
+ghost use Rattle.board.specs.Layout.{mostTasks, scratchWords, mostScratch};
 ghost use Rattle.board.specs.Sound.{Between};
-ghost use Rattle.counts.specs.Records.{mostCommon};
+ghost use Rattle.bitset.specs.Bits.{member};
+ghost use Rattle.bitset.specs.Records.{recordAt};
+ghost use Rattle.counts.specs.Counted.{countBy};
 ghost use Rattle.figures.specs.Ready.{Ready};
 ghost use Rattle.figures.specs.Overhead.{evictedBy};
 ghost use Rattle.figures.specs.Rows.{Evicted, onCoreOf, raised};
+ghost use Rattle.figures.specs.Higher.{Higher};
 
 // Where row i starts in the words of n tasks.
 pub fn place(n: usize, i: usize) -> usize
@@ -27,93 +25,59 @@ pub fn place(n: usize, i: usize) -> usize
     4 * n + i * n
 }
 
-// Raises the row by m records of a trace of task i, for each higher task j on its core. No records raise nothing.
-pub fn raise(
+// Raises the row by a point of task i where the test holds, for each task j above it on its core: by the useful blocks of the point in the sets evicted by j.
+// `live` has their numbers. The lowest task is first: the higher ones on the core evict no more than it.
+pub fn raise_if(
+    test: bool,
     board: &[u32],
     i: usize,
+    higher: &[u32; 64],
     evicted: &[u64; ECB_WORDS],
-    lives: &[u64],
+    live: &[u64],
     caches: usize,
     planes: usize,
-    m: usize,
     row: &mut [u32; 64],
 )
-    requires { ⌜ (Ready (now board) i) × (Evicted (now board) i (now evicted)) × (Between 1 2 caches) × (Between 1 4 planes) × (m ≤ 1024)
-        × (4 * (m * planes * caches) ≤ length (now lives)) ⌝ }
+    requires { ⌜ (Ready (now board) i) × (Higher (now board) i (now higher)) × (Evicted (now board) i (now evicted)) × (Between 1 2 caches) × (planes ≤ 4)
+        × (4 * (planes * caches) ≤ length (now live)) ⌝ }
     ensures { λ _. ⌜ now (row .exit) ≡ raised (onCoreOf (now (board .entry)) i
-        (λ (j : ℕ). mostCommon caches (now (lives .entry)) planes planes m (evictedBy (now (board .entry)) j))) i (now (row .entry)) ⌝ }
+        (λ (j : ℕ). onlyIf test (countBy caches (now (live .entry)) planes (evictedBy (now (board .entry)) j)))) i (now (row .entry)) ⌝ }
 {
-    if m == 0 {
+    if !test {
         return;
     }
-    let used = needed(lives, caches, planes, m);
-    let most = most_common(lives, caches, planes, used, m, full());
-    let mut count: u32 = 0;
-    let mut j: usize = 0;
-    while j < i {
-        let here = on_core_of(board, i, j);
-        count = next_count(
-            here,
-            board,
-            i,
-            j,
-            evicted,
-            lives,
-            caches,
-            planes,
-            used,
-            m,
-            count,
-            most,
-        );
-        row[j] = larger(row[j], only_if(here, count));
-        j += 1;
+    let mut most: u32 = 7680;
+    let mut q: usize = 0;
+    let mut k = index(higher[0]);
+    while 0 < k {
+        most = raise_word(row, k - 1, most, live, caches, planes, evicted);
+        q += 1;
+        k = index(higher[q]);
     }
 }
 
-// The number where the test holds, and 0 where not.
-fn only_if(test: bool, x: u32) -> u32
-    ensures { λ r. ⌜ r ≡ onlyIf test x ⌝ }
-{
-    if test { x } else { 0 }
-}
-
-// Whether tasks i and j are on one core.
-fn on_core_of(board: &[u32], i: usize, j: usize) -> bool
-    requires { ⌜ (Ready (now board) i) × (j < i) ⌝ }
-    ensures { λ r. ⌜ r ≡ eqb (core (now (board .entry)) i) (core (now (board .entry)) j) ⌝ }
-{
-    let x = fields::core(board, i);
-    let y = fields::core(board, j);
-    x == y
-}
-
-// The most useful blocks that a record of a trace of task i has in the sets evicted by task j, by the planes used, where j is `here`, on the core of i; else
-// the count stays. Once it is the most that a record has, it stays too: the lower tasks of a core evict what the higher ones do.
-fn next_count(
-    here: bool,
-    board: &[u32],
-    i: usize,
+// Raises word j of the row by the useful blocks in the sets of record j of `evicted`, which are no more than `most`: they are counted only where that is above
+// the word. A number that they are no more than.
+fn raise_word(
+    row: &mut [u32; 64],
     j: usize,
-    evicted: &[u64; ECB_WORDS],
-    lives: &[u64],
+    most: u32,
+    live: &[u64],
     caches: usize,
     planes: usize,
-    used: usize,
-    m: usize,
-    count: u32,
-    most: u32,
+    evicted: &[u64; ECB_WORDS],
 ) -> u32
-    requires { ⌜ (Ready (now board) i) × (j < i) × (Evicted (now board) i (now evicted)) × (Between 1 2 caches) × (1 ≤ used) × (used ≤ planes) × (planes ≤ 4)
-        × (m ≤ 1024) × (4 * (m * planes * caches) ≤ length (now lives))
-        × (count ≡ most → here ≡ true → mostCommon caches (now lives) planes used m (evictedBy (now board) j) ≡ most) ⌝ }
-    ensures { λ r. ⌜ (here ≡ true → r ≡ mostCommon caches (now (lives .entry)) planes used m (evictedBy (now (board .entry)) j)) × (here ≡ false → r ≡ count) ⌝ }
+    requires { ⌜ (j < 64) × (Between 1 2 caches) × (planes ≤ 4) × (4 * (planes * caches) ≤ length (now live))
+        × (countBy caches (now live) planes (member (recordAt 8 (now evicted) j)) ≤ most) ⌝ }
+    ensures { λ r. ⌜ (now (row .exit) ≡ set (now (row .entry)) j
+        (max (getD (now (row .entry)) j 0) (countBy caches (now (live .entry)) planes (member (recordAt 8 (now (evicted .entry)) j)))))
+        × (countBy caches (now (live .entry)) planes (member (recordAt 8 (now (evicted .entry)) j)) ≤ r) ⌝ }
 {
-    if !here {
-        return count;
+    let least = row[j];
+    if most <= least {
+        return most;
     }
-    if count == most {
-        return count;
-    }
-    most_common(lives, caches, planes, used, m, read(evicted, j))
+    let count = count_in(live, caches, planes, evicted, j);
+    row[j] = larger(least, count);
+    count
 }

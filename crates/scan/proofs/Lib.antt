@@ -1,3 +1,2 @@
--- The laws of the useful blocks of a trace, from its marks and in batches.
-pub mod Batches
+-- The laws of the useful blocks of a trace, from its marks.
 pub mod Marked

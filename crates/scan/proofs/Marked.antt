@@ -26,8 +26,8 @@ use Rattle.trace.specs.Traces.{Trace, useful, usefulAt, mostUseful}
 use Rattle.trace.specs.Slots.{loadAt}
 use Rattle.trace.proofs.Caches.{place-low, place-low-one}
 use Rattle.trace.proofs.Sets.{usefulAt-places, usefulAt-one-cache, useful-slot}
-use Rattle.useful.specs.Recorded.{Turning, atPoint}
-use Rattle.scan.specs.Levels.{cachesOf, Levels}
+use Rattle.useful.specs.Levels.{Turning, atPoint, Levels}
+use Rattle.scan.specs.Caches.{cachesOf}
 
 module _ (c : ℕ) (place : ℕ → ℕ) (ways : ℕ) (l : ℕ → ℕ) (low : (m : ℕ) → place m < setsOf c) where
   mark-small : (n e : ℕ) → markOf place ways l n e < 1024 * c

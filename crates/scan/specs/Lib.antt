@@ -1,3 +1,3 @@
--- What the marks of a trace say of its useful blocks, and what the scan of a trace finds.
-pub mod Levels
+-- The caches of a board, and what the scan of a trace finds.
+pub mod Caches
 pub mod Found

@@ -10,6 +10,7 @@ use trace::cursor::Cursor;
 use trace::demand;
 use trace::demand::Demand;
 ghost use mathlib.Core.Path.{_≡_};
+ghost use mathlib.Core.Bool.{true};
 ghost use Prim.Native.Nat.{_≤_};
 ghost use lib.ListN.{length};
 ghost use Rattle.board.specs.Layout.{memory};
@@ -17,30 +18,31 @@ ghost use Rattle.entries.specs.Marks.{AllEarlier, baseOf};
 ghost use Rattle.trace.specs.Starts.{Starts};
 ghost use Rattle.figures.specs.Ready.{Ready};
 ghost use Rattle.figures.specs.Rows.{Evicted};
+ghost use Rattle.figures.specs.Higher.{Higher};
 ghost use Rattle.scan.specs.Found.{Found};
 
 // PD and MD of one trace of task i. Its evicting cache blocks are added to `ecb` and, with `rows`, the row is raised by its useful blocks. Without a
-// cache nothing is evicted or useful. `held` has no block of this trace or of a later one; `marks` and `lives` are room to work in.
+// cache nothing is evicted or useful. `higher` has the tasks above task i on its core, and `held` no block of this trace or of a later one; `marks` is room to work in.
 pub fn scan_trace(
     board: &[u32],
     i: usize,
     at: Cursor,
     rows: bool,
+    higher: &[u32; 64],
     evicted: &[u64; ECB_WORDS],
     ecb: &mut [u64],
     row: &mut [u32; 64],
     held: &mut [u64; 4096],
     marks: &mut [u32; 2048],
-    lives: &mut [u64; 2048],
 ) -> Demand
     requires { ⌜ (Ready (now board) i) × (Starts (now board) (at .trace) (at .start)) × (Evicted (now board) i (now evicted))
-        × (AllEarlier (baseOf (at .trace)) (now held)) × (length (now ecb) ≡ 8) ⌝ }
+        × (AllEarlier (baseOf (at .trace)) (now held)) × (length (now ecb) ≡ 8) × (rows ≡ true → 2 ≤ memory (now board) → Higher (now board) i (now higher)) ⌝ }
     ensures { λ r. ⌜ Found (now (board .entry)) i (at .trace) rows (r .pd) (r .md) (now (ecb .entry)) (now (ecb .exit)) (now (row .entry)) (now (row .exit))
         (now (held .exit)) ⌝ }
 {
     let kind = fields::memory(board);
     if 2 <= kind {
-        return under_cache(board, i, at, rows, evicted, ecb, row, held, marks, lives);
+        return under_cache(board, i, at, rows, higher, evicted, ecb, row, held, marks);
     }
     let len = index(fields::trace_length(board, at.trace));
     demand::uncached(board, at.start, len)
@@ -52,15 +54,16 @@ fn under_cache(
     i: usize,
     at: Cursor,
     rows: bool,
+    higher: &[u32; 64],
     evicted: &[u64; ECB_WORDS],
     ecb: &mut [u64],
     row: &mut [u32; 64],
     held: &mut [u64; 4096],
     marks: &mut [u32; 2048],
-    lives: &mut [u64; 2048],
 ) -> Demand
     requires { ⌜ (Ready (now board) i) × (Starts (now board) (at .trace) (at .start)) × (Evicted (now board) i (now evicted))
-        × (AllEarlier (baseOf (at .trace)) (now held)) × (length (now ecb) ≡ 8) × (2 ≤ memory (now board)) ⌝ }
+        × (AllEarlier (baseOf (at .trace)) (now held)) × (length (now ecb) ≡ 8) × (2 ≤ memory (now board))
+        × (rows ≡ true → Higher (now board) i (now higher)) ⌝ }
     ensures { λ r. ⌜ Found (now (board .entry)) i (at .trace) rows (r .pd) (r .md) (now (ecb .entry)) (now (ecb .exit)) (now (row .entry)) (now (row .exit))
         (now (held .exit)) ⌝ }
 {
@@ -70,7 +73,7 @@ fn under_cache(
     let md = mark_trace(board, at.start, len, base, held, ecb, marks);
     let demand = Demand { pd, md };
     if rows {
-        raise_points(board, i, len, evicted, marks, lives, row);
+        raise_points(board, i, len, higher, evicted, marks, row);
     }
     demand
 }

@@ -28,7 +28,7 @@ module _ (b : List ℕ) (i : ℕ) where
   addedBy r = onCoreOf b i (λ j. maxTo (λ q. mostUseful (taskTrace b i q) (evictedBy b j)) r)
 
   pub added-none : (row : List ℕ) → row ≡ raised (addedBy 0) i row
-  added-none row = raised-none (addedBy 0) i row (λ j. onlyIf-zero (eqb (core b i) (core b j)) _ (maxTo-none _))
+  added-none row = raised-none (addedBy 0) i row (λ j h. onlyIf-zero (eqb (core b i) (core b j)) _ (maxTo-none _))
 
   pub added-turn : (r : ℕ) (row out next : List ℕ) → out ≡ raised (addedBy r) i row
       → next ≡ raised (onCoreOf b i (λ j. mostUseful (taskTrace b i r) (evictedBy b j))) i out

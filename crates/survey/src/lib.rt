@@ -4,6 +4,7 @@ use bitset::records::write;
 use board::MOST_SCRATCH;
 use board::fields;
 use figures::ECB_WORDS;
+use figures::higher::list_if;
 use figures::row;
 use folds::index;
 use folds::larger;
@@ -46,7 +47,6 @@ pub fn survey(
     let mut row = [0u32; 64];
     let mut held = [0u64; 4096];
     let mut marks = [0u32; 2048];
-    let mut lives = [0u64; 2048];
     let mut at = cursor::first(board);
     let mut i: usize = 0;
     while i < count {
@@ -59,7 +59,6 @@ pub fn survey(
             &mut row,
             &mut held,
             &mut marks,
-            &mut lives,
         );
         let ecb = task.ecb;
         keep(board, i, ecb, sets, &mut cores, &mut evicted);
@@ -100,7 +99,6 @@ fn survey_task(
     row: &mut [u32; 64],
     held: &mut [u64; 4096],
     marks: &mut [u32; 2048],
-    lives: &mut [u64; 2048],
 ) -> Task
     requires { ⌜ (Ready (now board) i) × (At (now board) i 0 (first .trace) (first .start)) × (Evicted (now board) i (now ecbs))
         × (AllEarlier (baseOf (first .trace)) (now held)) ⌝ }
@@ -114,9 +112,23 @@ fn survey_task(
     let mut pd: u32 = 0;
     let mut md: u32 = 0;
     let mut ecb = bitset::empty();
+    let kind = fields::memory(board);
+    let mut higher = [0u32; 64];
+    list_if(rows & (2 <= kind), board, i, &mut higher);
     let mut r: u32 = 0;
     while r < count {
-        let found = scan_trace(board, i, at, rows, ecbs, &mut ecb, row, held, marks, lives);
+        let found = scan_trace(
+            board,
+            i,
+            at,
+            rows,
+            &higher,
+            ecbs,
+            &mut ecb,
+            row,
+            held,
+            marks,
+        );
         pd = larger(pd, found.pd);
         md = larger(md, found.md);
         at = cursor::next(board, at);

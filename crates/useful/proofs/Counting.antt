@@ -1,5 +1,5 @@
--- A scan that records points, over any numbers `at p` of point p: a point is recorded where a number grew since the last record and the next point
--- loses one, or the points end. What was recorded, and the present point where it is still to be recorded, have the largest number up to it.
+-- A scan that counts at some points, over any numbers `at p` of point p: a point is counted where a number grew since the last one that was and the next point
+-- loses one, or the points end. What was counted, and the present point where it is still to be, have the largest number up to it.
 -- Assumes nothing.
 use Prim.Native.Nat.{ℕ, _+_, _≤_, max}
 use mathlib.Core.Bool.{Bool, true, false, not, _&&_, _||_, false≢true}
@@ -8,7 +8,7 @@ use native.Mathlib.Omega.{arith}
 use Rattle.folds.specs.Folds.{onlyIf, maxTo}
 use Rattle.folds.proofs.Folds.{maxTo-next}
 
--- at point p, with `most` the largest number recorded; `fresh` is whether point p is still to be recorded
+-- at point p, with `most` the largest number counted; `fresh` is whether point p is still to be counted
 abbrev pub Standing : (ℕ → ℕ) → ℕ → Bool → ℕ → Type 0
 Standing at most fresh p = max most (onlyIf fresh (at p)) ≡ maxTo at (p + 1)
 
@@ -17,7 +17,7 @@ module _ (at : ℕ → ℕ) (p : ℕ) where
   standing-start most true e none = omega (arith, maxTo-next at p)
   standing-start most false e none = omega (arith, none refl, maxTo-next at p)
 
-  -- one turn: point p is recorded where it is to be
+  -- one turn: point p is counted where it is to be
   pub standing-turn : (most most' : ℕ) (fresh lost came : Bool) → most' ≡ max most (onlyIf (fresh && lost) (at p)) → (lost ≡ false → at p ≤ at (p + 1))
       → (came ≡ false → at (p + 1) ≤ at p) → Standing at most fresh p → Standing at most' ((fresh && not lost) || came) (p + 1)
   standing-turn most most' true true true e keeps adds so-far = omega (arith, maxTo-next at (p + 1))
@@ -27,7 +27,7 @@ module _ (at : ℕ → ℕ) (p : ℕ) where
   standing-turn most most' false lost true e keeps adds so-far = omega (arith, maxTo-next at (p + 1))
   standing-turn most most' false lost false e keeps adds so-far = omega (arith, maxTo-next at p, maxTo-next at (p + 1), adds refl)
 
-  -- where a block is lost, or the points end, all of them are recorded
+  -- where a block is lost, or the points end, all of them are counted
   pub standing-end : (most most' : ℕ) (fresh lost : Bool) → most' ≡ max most (onlyIf (fresh && lost) (at p)) → lost ≡ true → Standing at most fresh p → most' ≡ maxTo at (p + 1)
   standing-end most most' true true e l so-far = omega arith
   standing-end most most' true false e l so-far = absurd (false≢true l)

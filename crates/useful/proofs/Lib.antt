@@ -1,4 +1,4 @@
--- The laws of the numbers from slot to slot, and of the points that are recorded.
+-- The laws of the numbers from slot to slot, and of the points that are counted.
 pub mod Slots
-pub mod Recording
+pub mod Counting
 pub mod Points

@@ -14,7 +14,7 @@ use Rattle.folds.specs.Folds.{onlyIf}
 use Rattle.folds.proofs.Folds.{sumWhere-rise}
 use Rattle.counts.specs.Planes.{setsOf, countOf, largest}
 use Rattle.counts.specs.Turns.{adds, takes, Passed}
-use Rattle.useful.specs.Recorded.{Turning, Shown, atPoint}
+use Rattle.useful.specs.Levels.{Turning, Shown, atPoint}
 
 -- ---- what a mark says of a set
 

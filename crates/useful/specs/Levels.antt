@@ -7,7 +7,7 @@ use mathlib.Core.List.{List}
 use mathlib.Core.Path.{_≡_}
 use lib.ListN.{getD}
 use Rattle.folds.specs.Folds.{sumWhere}
-use Rattle.counts.specs.Planes.{setsOf, countOf, largest}
+use Rattle.counts.specs.Planes.{setsOf, countOf}
 use Rattle.counts.specs.Turns.{adds, takes}
 
 -- the numbers f e s before slot e of set s change as the first n marks say
@@ -22,10 +22,10 @@ Shown c f e planes live = (s : ℕ) → s < setsOf c → countOf c live 0 planes
 abbrev pub atPoint : ℕ → (ℕ → ℕ → ℕ) → (ℕ → Bool) → ℕ → ℕ
 atPoint c f test p = sumWhere test (f (2 * p)) (setsOf c)
 
--- there are such numbers, which the planes have room for: so no step of the code overflows
-pub record Tallied (c : ℕ) (marks : List ℕ) (n planes e : ℕ) (live : List ℕ) : Type 0 where
+-- there are such numbers, none before the first slot and at most `most` in a set, so that no step of the code overflows
+pub record Levels (c : ℕ) (marks : List ℕ) (n most : ℕ) : Type 0 where
   pub f : ℕ → ℕ → ℕ
   pub turning : Turning c f marks n
-  pub few : (e s : ℕ) → e ≤ n → s < setsOf c → f e s ≤ largest planes
+  pub first : (s : ℕ) → s < setsOf c → f 0 s ≡ 0
+  pub few : (e s : ℕ) → f e s ≤ most
   pub small : (e : ℕ) → e < n → getD marks e 0 < 1024 * c
-  pub shown : Shown c f e planes live

@@ -1,2 +1,2 @@
--- The numbers of useful blocks from slot to slot, and their records.
-pub mod Recorded
+-- The numbers of useful blocks from slot to slot.
+pub mod Levels

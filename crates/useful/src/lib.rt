@@ -1,52 +1,63 @@
-// The scan of a trace over its marks: the numbers of useful blocks at its points, some of which are recorded and stand for all of them.
+// The scan of a trace over its marks: the useful blocks at its points raise a row of overheads while it goes by, and no point is kept.
 use counts::pass_mark;
-use counts::records::write_if;
+use figures::ECB_WORDS;
+use figures::row;
 ghost use mathlib.Core.Path.{_≡_};
-ghost use mathlib.Core.Bool.{Bool, true, false};
-ghost use Prim.Native.Nat.{ℕ, _+_, _-_, _*_, _%_, _≤_, _<_, max};
+ghost use mathlib.Core.Bool.{true, false};
+ghost use Prim.Native.Nat.{ℕ, _+_, _*_, _%_, _≤_, _<_};
 ghost use lib.ListN.{length};
 ghost use Rattle.folds.specs.Folds.{maxTo};
-ghost use Rattle.counts.specs.Planes.{setsOf};
-ghost use Rattle.counts.specs.Records.{mostCommon};
-ghost use Rattle.useful.specs.Recorded.{Turning, Shown, atPoint, Tallied};
+ghost use Rattle.board.specs.Sound.{Between};
+ghost use Rattle.counts.specs.Planes.{setsOf, largest};
+ghost use Rattle.figures.specs.Ready.{Ready};
+ghost use Rattle.figures.specs.Overhead.{evictedBy};
+ghost use Rattle.figures.specs.Rows.{Evicted, onCoreOf, raised};
+ghost use Rattle.figures.specs.Higher.{Higher};
+ghost use Rattle.useful.specs.Levels.{Turning, atPoint, Levels};
 
-// Records the useful blocks of the points from .. end - 1: whatever sets are counted, the largest number of a record and of the points before is that of
-// all points before `end`. A point is recorded where a number grew since the last record and the next point loses a block, or the points end; `fresh`
-// is whether the point `from` is still to be recorded. `live` has the numbers of that point, and then those of the point `end`. The number of records.
-pub fn record_points(
-    marks: &[u32],
-    from: usize,
-    end: usize,
+// Raises the row by the points of a trace of task i, of `len` instructions, whose slots are marked. A point is counted where a number grew since the last one
+// that was and the next point loses a block, or the points end: whatever sets are counted, it has the most useful blocks of all points since. `live` has the
+// numbers of the point at hand.
+pub fn raise_points(
+    board: &[u32],
+    i: usize,
+    len: usize,
     caches: usize,
     planes: usize,
-    fresh: bool,
-    live: &mut [u64],
-    lives: &mut [u64],
-) -> usize
-    requires { ⌜ (Tallied caches (now marks) (2 * end) planes (2 * from) (now live)) × (from ≤ end) × (end ≤ 1024) × (2 * end ≤ length (now marks))
-        × (caches ≤ 2) × (planes ≤ 4) × (4 * (planes * caches) ≤ length (now live)) × (4 * ((end - from) * (planes * caches)) ≤ length (now lives)) ⌝ }
-    ensures { λ r. ⌜ (r ≤ end - from)
-        × ((f : ℕ → ℕ → ℕ) → Turning caches f (now (marks .entry)) (2 * end) → Shown caches f (2 * from) planes (now (live .entry))
-        → (fresh ≡ false → (s : ℕ) → s < setsOf caches → f (2 * from) s ≡ 0)
-        → (Shown caches f (2 * end) planes (now (live .exit)))
-        × ((test : ℕ → Bool) → max (maxTo (atPoint caches f test) from) (mostCommon caches (now (lives .exit)) planes planes r test)
-        ≡ maxTo (atPoint caches f test) end))
-        × (length (now (live .exit)) ≡ length (now (live .entry))) × (length (now (lives .exit)) ≡ length (now (lives .entry))) ⌝ }
+    higher: &[u32; 64],
+    evicted: &[u64; ECB_WORDS],
+    marks: &[u32],
+    row: &mut [u32; 64],
+)
+    requires { ⌜ (Ready (now board) i) × (Higher (now board) i (now higher)) × (Evicted (now board) i (now evicted))
+        × (Levels caches (now marks) (2 * len) (largest planes)) × (Between 1 2 caches) × (Between 1 4 planes) × (len ≤ 1024) × (2 * len ≤ length (now marks)) ⌝ }
+    ensures { λ _. ⌜ ((f : ℕ → ℕ → ℕ) → Turning caches f (now (marks .entry)) (2 * len) → ((s : ℕ) → s < setsOf caches → f 0 s ≡ 0)
+        → now (row .exit) ≡ raised (onCoreOf (now (board .entry)) i (λ (j : ℕ). maxTo (atPoint caches f (evictedBy (now (board .entry)) j)) len)) i
+        (now (row .entry))) ⌝ }
 {
-    let mut m: usize = 0;
-    let mut fresh = fresh;
-    let mut p = from;
-    while p < end {
+    let mut live = [0u64; 32];
+    let mut fresh = false;
+    let mut p: usize = 0;
+    while p < len {
         let x = marks[2 * p];
         let y = marks[2 * p + 1];
-        let lost = loses(x, y) | is_last(p, end);
-        m = write_if(fresh & lost, lives, m, planes * caches, live);
-        pass_mark(live, caches, planes, x);
-        pass_mark(live, caches, planes, y);
+        let lost = loses(x, y) | is_last(p, len);
+        row::raise_if(
+            fresh & lost,
+            board,
+            i,
+            higher,
+            evicted,
+            &live,
+            caches,
+            planes,
+            row,
+        );
+        pass_mark(&mut live, caches, planes, x);
+        pass_mark(&mut live, caches, planes, y);
         fresh = fresh & !lost | gains(x, y);
         p += 1;
     }
-    m
 }
 
 // Whether one of the two marks of an instruction takes a block from its set.

@@ -10,7 +10,7 @@ use borrow.Author.Needs.{needs}
 use Rattle.folds.specs.Folds.{onlyIf}
 use Rattle.bitset.specs.Bits.{bit, wordOf}
 use Rattle.bitset.proofs.Words.{bit-none, bit-oneAt, wordOf-is}
-use Rattle.counts.proofs.Carries.{moves}
+use Rattle.counts.specs.Carries.{moves}
 use Rattle.counts.proofs.carry_of.Statement.{statement}
 use Rattle.counts.proofs.carry_of.Tie as tie
 

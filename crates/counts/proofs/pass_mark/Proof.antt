@@ -1,96 +1,89 @@
--- `counts::pass_mark` meets its contract. The invariant: after i planes the numbers have moved but for the carries that go into the others.
+-- `counts::pass_mark` meets its contract: after the first plane the numbers have moved but for the carries that go into the others, and of one plane none is left.
 -- Assumes nothing.
-use Prim.Native.Nat.{ℕ, _+_, _-_, _*_, _≤_, _<_}
-use mathlib.Core.Path.{_≡_, refl, _∙_}
-use native.Mathlib.Nat.{mul-le-mul}
+use Prim.Native.Nat.{ℕ, _+_, _*_, _<_}
+use mathlib.Core.List.{List}
+use mathlib.Core.Path.{_≡_, refl, subst, _∙_}
+use native.Mathlib.Nat.{mul-le-mul-left}
 use native.Mathlib.Omega.{arith}
 use denote.Ref.{now}
 use lib.Bits.{bitAnd, bitXor}
 use lib.ListN.{length, getD, set, length-set}
 use borrow.Author.Needs.{needs}
-use Rattle.counts.proofs.Planes.{apart}
-use Rattle.counts.proofs.Carries.{Rippled, ripple-start, ripple-on, ripple-stop, ripple-end}
+use Rattle.bitset.specs.Bits.{wordOf}
+use Rattle.counts.specs.Carries.{falls, Rippled}
+use Rattle.counts.proofs.Carries.{ripple-start, ripple-on, ripple-end}
 use Rattle.counts.proofs.pass_mark.Statement.{statement}
 use Rattle.counts.proofs.pass_mark.Tie as tie
 
-abbrev Inv : tie.InvT-loop
-Inv live₀ c planes mark at turned carry₀ i₀ live carry i = (i ≤ planes) × (length live ≡ length live₀) × Rippled c planes mark at live₀ i carry live
-
-abbrev μ : tie.MeasureT-loop
-μ live₀ c planes mark at turned carry₀ i₀ live carry i = planes - i
-
-holds : tie.Need-loop-holds Inv μ
-holds c =
-    let a = c .before .before .before .before .args in
-    (omega arith, refl, ripple-start (a .caches) (a .planes) (a .mark) (c .before .before .index .result) (now (a .live)) (c .carry-of .result) (c .before .before .index .ensures .0) (c .carry-of .ensures))
-
--- the word of the set in plane i
-module _ (c : tie.In-loop Inv μ) where
-  abbrev top : tie.Start Inv μ
-  top = c .before .before .before .before .before .before
+-- the word of the mark's set in the first plane
+module _ (c : tie.After-carry-of) where
+  abbrev top : tie.Start
+  top = c .before .before .before
 
   abbrev at : ℕ
-  at = c .before .before .before .before .index .result
+  at = c .before .index .result
 
   near : at < 4 * top .args .caches
-  near = omega (arith, c .before .before .before .before .index .ensures .0, top .pre .0)
+  near = omega (arith, c .before .index .ensures .0, top .pre .0)
 
-  -- the plane lies within the planes
-  inside : c .before .loop .i * top .args .caches + top .args .caches ≤ top .args .planes * top .args .caches
-  inside = apart (c .before .loop .i) (top .args .planes) (top .args .caches) (c .loop-test .taken)
+  there : at < length (now (top .args .live))
+  there = omega (arith, near, mul-le-mul-left (top .args .caches) (top .pre .1), top .pre .3)
 
-  few : top .args .planes * top .args .caches ≤ 8
-  few = mul-le-mul {n₂ = 4} {m₂ = 2} (top .pre .1) (top .pre .3)
+  abbrev word : ℕ
+  word = getD (now (top .args .live)) at 0
 
-  there : 4 * (c .before .loop .i * top .args .caches) + at < length (c .before .loop .live)
-  there = omega (arith, near, inside, c .before .loop .inv .1, top .pre .2)
+  abbrev first : List ℕ
+  first = set (now (top .args .live)) at (bitXor word (c .carry-of .result))
 
--- what a turn leaves
-rippled : (c : tie.After-slice-known2 Inv μ)
-    → let here = c .before in
-    let loop = here .before .loop in
-    let a = top here .args in
-    let all = here .before .before .before .all-if .result in
-    let w = getD (loop .live) (4 * (loop .i * a .caches) + at here) 0 in
-    Rippled (a .caches) (a .planes) (a .mark) (at here) (now (a .live)) (loop .i + 1) (bitAnd (loop .carry) (bitXor w all))
-    (set (loop .live) (4 * (loop .i * a .caches) + at here) (bitXor w (loop .carry)))
-rippled c =
-    let here = c .before in
-    let loop = here .before .loop in
-    let a = top here .args in
-    ripple-on (a .caches) (a .planes) (a .mark) (at here) (now (a .live)) (loop .live) (loop .i) (loop .carry) (here .before .before .before .all-if .result)
-    (here .loop-test .taken) (near here) (there here) (here .before .before .before .all-if .ensures) (loop .inv .2)
+  same-room : length first ≡ length (now (top .args .live))
+  same-room = length-set (now (top .args .live)) at (bitXor word (c .carry-of .result))
 
-again : tie.Need-loop-again Inv μ
-again c =
-    let turn = c .before in
-    let here = turn .before in
-    let loop = here .before .loop in
-    (omega (arith, here .loop-test .taken), length-set (loop .live) _ _ ∙ loop .inv .1, rippled turn)
+  -- what the first plane leaves
+  rippled : (turned : ℕ) → turned ≡ wordOf (λ t. falls (top .args .mark)) 64
+      → Rippled (top .args .caches) (top .args .planes) (top .args .mark) at (now (top .args .live)) 1 (bitAnd (c .carry-of .result) (bitXor word turned)) first
+  rippled turned e =
+      let a = top .args in
+      let place : 4 * (0 * a .caches) + at ≡ at = omega arith in
+      subst
+      (λ (p : ℕ). Rippled (a .caches) (a .planes) (a .mark) at (now (a .live)) 1 (bitAnd (c .carry-of .result) (bitXor (getD (now (a .live)) p 0) turned))
+      (set (now (a .live)) p (bitXor (getD (now (a .live)) p 0) (c .carry-of .result)))) place
+      (ripple-on (a .caches) (a .planes) (a .mark) at (now (a .live)) (now (a .live)) 0 (c .carry-of .result) turned (top .pre .1) near (omega (arith, there)) e
+      (ripple-start (a .caches) (a .planes) (a .mark) at (now (a .live)) (c .carry-of .result) (c .before .index .ensures .0) (c .carry-of .ensures)))
 
--- the carry ends before the last plane
-stops : tie.Need-returns Inv μ
-stops c =
-    let turn = c .before in
-    let here = turn .before in
-    let loop = here .before .loop in
-    let a = top here .args in
-    (ripple-stop (a .caches) (a .planes) (a .mark) (at here) (now (a .live)) _ (loop .i + 1) _ (omega (arith, c .if1 .taken)) (rippled turn), length-set (loop .live) _ _ ∙ loop .inv .1)
-
-returns : tie.Need-returns-2 Inv μ
-returns c =
-    let loop = c .before .loop in
-    let start = c .before .before .before .before .before .before in
+one : tie.Need-returns
+one c =
+    let carry = c .before .before in
+    let start = top carry in
     let a = start .args in (
-      ripple-end (a .caches) (a .planes) (a .mark) (c .before .before .before .before .index .result) (now (a .live)) (loop .live) (loop .i) (loop .carry)
-          (omega (arith, loop .inv .0, c .loop-test .left)) (start .pre .4) (start .pre .5) (loop .inv .2),
-      loop .inv .1,
+      ripple-end (a .caches) (a .planes) (a .mark) (at carry) (now (a .live)) _ 1 _ (omega (arith, c .if1 .taken)) (start .pre .5) (start .pre .6)
+          (rippled carry (wordOf (λ t. falls (a .mark)) 64) refl),
+      same-room carry,
+    )
+
+asks : tie.Need-carry-on-requires
+asks c κs =
+    let turn = c .before in
+    let carry = turn .before .before .before in
+    let pre = top carry .pre in
+    (pre .0, pre .1, pre .2, omega (arith, same-room carry, pre .3), pre .4, turn .all-if .ensures)
+
+rest : tie.Need-returns-2
+rest c =
+    let on = c .before .before in
+    let turn = on .before .before in
+    let carry = turn .before .before .before in
+    let start = top carry in
+    let a = start .args in (
+      on .carry-on .ensures .0 (now (a .live)) (start .pre .5) (start .pre .6)
+          (subst
+          (λ (p : ℕ). Rippled (a .caches) (a .planes) (a .mark) p (now (a .live)) 1 (bitAnd (carry .carry-of .result) (bitXor (word carry) (turn .all-if .result))) (first carry))
+          (carry .before .index .ensures .0) (rippled carry (turn .all-if .result) (turn .all-if .ensures))),
+      on .carry-on .ensures .1 ∙ same-room carry,
     )
 
 pub pass-mark-spec : {M : Type 1} → statement M
 pass-mark-spec =
     tie.close
-    (tie.spec Inv μ (λ c κs. search needs) (λ c κs. search needs) (λ c κs. search needs) holds (λ c. omega (arith, few c, inside c))
-    (λ c. omega (arith, few c, inside c)) (λ c. omega (arith, few c, inside c, near c)) (λ c. omega (arith, few c, inside c)) (λ c. there (c .before))
-    (λ c. omega (arith, few (c .before), inside (c .before))) (λ c. there (c .before)) (λ c. length-set (c .before .before .before .loop .live) _ _ ∙ c .before .before .before .loop .inv .1) stops
-    (λ c. search needs) (λ c. search needs) again (λ c. c .before .loop .inv .1) returns)
+    (tie.spec (λ c κs. search needs) (λ c κs. search needs) (λ c. omega (arith, near c, top c .pre .4)) (λ c. there (c .before)) (λ c. omega (arith, near (c .before), top (c .before) .pre .4))
+    (λ c. there (c .before)) (λ c. same-room (c .before .before)) one (λ c κs. search needs) asks
+    (λ c. c .before .before .carry-on .ensures .1 ∙ same-room (c .before .before .before .before .before .before .before)) rest)

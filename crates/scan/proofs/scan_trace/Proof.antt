@@ -1,6 +1,6 @@
 -- `scan::scan_trace` meets its contract.
 -- Assumes nothing.
-use Prim.Native.Nat.{_<_}
+use Prim.Native.Nat.{_≤_, _<_}
 use mathlib.Core.Path.{ap, _∙_}
 use denote.Ref.{now}
 use native.Mathlib.Omega.{arith}
@@ -39,15 +39,16 @@ plain c =
       md = c .uncached .ensures .0 ∙ ap traceMD same;
       joined = join-none (now (a .ecb)) (evicts t) (start .pre .4) (known .slice-known .given) (evicts-plain t uncached);
       higher = λ wanted.
-          raised-none _ (a .i) (now (a .row)) (λ j. onlyIf-zero (eqb (core b (a .i)) (core b j)) _ (mostUseful-plain t uncached (evictedBy b j)));
+          raised-none _ (a .i) (now (a .row)) (λ j h. onlyIf-zero (eqb (core b (a .i)) (core b j)) _ (mostUseful-plain t uncached (evictedBy b j)));
       later = λ j. omega (arith, start .pre .3 j);
     }
 
 cached : tie.Need-under-cache-requires
 cached c κs =
-    let read = c .before .before .before .before .before in
+    let read = c .before .before .before .before in
     let start = read .before .before .before .before in
-    (start .pre .0, start .pre .1, start .pre .2, start .pre .3, start .pre .4, omega (arith, read .if1 .taken, read .before .memory .ensures .0))
+    let cached : 2 ≤ memory (now (start .args .board)) = omega (arith, read .if1 .taken, read .before .memory .ensures .0) in
+    (start .pre .0, start .pre .1, start .pre .2, start .pre .3, start .pre .4, cached, λ wanted. start .pre .5 wanted cached)
 
 pub scan-trace-spec : {M : Type 1} → statement M
 scan-trace-spec =

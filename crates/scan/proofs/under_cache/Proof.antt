@@ -21,7 +21,8 @@ use Rattle.trace.specs.Places.{traceAt, Lies}
 use Rattle.trace.proofs.Starts.{starts-lies, starts-trace}
 use Rattle.figures.specs.Overhead.{evictedBy}
 use Rattle.counts.specs.Planes.{setsOf}
-use Rattle.scan.specs.Levels.{cachesOf, Levels}
+use Rattle.useful.specs.Levels.{Levels}
+use Rattle.scan.specs.Caches.{cachesOf}
 use Rattle.scan.proofs.Marked.{marked-turning, marked-levels, before, place-few, most-useful}
 use Rattle.scan.proofs.under_cache.Statement.{statement}
 use Rattle.scan.proofs.under_cache.Tie as tie
@@ -86,20 +87,12 @@ module _ (c : tie.After-mark-trace) where
   levels : Levels caches marks (2 * read .index .result) (ways (now (start read .args .board)))
   levels = marked-levels _ _ _ _ low marks _ (c .mark-trace .ensures .1)
 
-lives-length : (c : tie.After-raise-points-arg4) → length (now (start (read (c .before .before .before .before .before .before .before)) .args .lives)) ≡ 2048
-lives-length c = search needs
-
 raises : tie.Need-raise-points-requires
 raises c κs =
-    let found = c .before .before .before .before .before .before .before in
-    let s = start (read found) in (
-      s .pre .0,
-      s .pre .2,
-      levels found,
-      lie (read found) .short,
-      omega (arith, marks-room found, lie (read found) .short),
-      omega (arith, lives-length c),
-    )
+    let wanted = c .before .before .before in
+    let found = wanted .before .before .before in
+    let s = start (read found) in
+    (s .pre .0, s .pre .6 (wanted .if1 .taken), s .pre .2, levels found, lie (read found) .short, omega (arith, marks-room found, lie (read found) .short))
 
 -- PD, MD, the evicting cache blocks, and the blocks held
 four : (c : tie.After-mark-trace)
@@ -120,7 +113,7 @@ four c =
 
 returns : tie.Need-returns
 returns c =
-    let found = c .before .before .before .before .before .before .before .before in
+    let found = c .before .before .before .before .before .before .before in
     let s = start (read found) in
     let a = s .args in
     let b = now (a .board) in

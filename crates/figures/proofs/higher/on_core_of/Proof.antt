@@ -1,10 +1,10 @@
--- `figures::row::on_core_of` meets its contract.
+-- `figures::higher::on_core_of` meets its contract.
 -- Assumes nothing.
 use mathlib.Core.Path.{ap₂}
 use borrow.Author.Needs.{needs}
 use lib.Dec.{eqb}
-use Rattle.figures.proofs.row.on_core_of.Statement.{statement}
-use Rattle.figures.proofs.row.on_core_of.Tie as tie
+use Rattle.figures.proofs.higher.on_core_of.Statement.{statement}
+use Rattle.figures.proofs.higher.on_core_of.Tie as tie
 
 pub on-core-of-spec : {M : Type 1} → statement M
 on-core-of-spec =
