@@ -16,7 +16,7 @@ use Rattle.bitset.specs.Bits.{bit, member}
 use Rattle.bitset.specs.Records.{recordAt}
 use Rattle.bitset.proofs.Words.{bit-none}
 use Rattle.counts.specs.Planes.{setsOf, inPlane, countOf, largest}
-use Rattle.counts.specs.Counted.{countBy, Counted}
+use Rattle.counts.specs.Counted.{countBy, mostCounted, Counted}
 
 -- record q of n lies before those from m on
 pub apart : (q m n : ℕ) → q < m → q * n + n ≤ m * n
@@ -127,7 +127,7 @@ largest-few (suc (suc (suc zero))) h = omega arith
 largest-few (suc (suc (suc (suc zero)))) h = omega arith
 largest-few (suc (suc (suc (suc (suc n))))) h = absurd (omega arith)
 
-pub count-bound : (c : ℕ) (live : List ℕ) (test : ℕ → Bool) (from n : ℕ) → c ≤ 2 → n ≤ 4 → sumWhere test (countOf c live from n) (setsOf c) ≤ 7680
+pub count-bound : (c : ℕ) (live : List ℕ) (test : ℕ → Bool) (from n : ℕ) → c ≤ 2 → n ≤ 4 → sumWhere test (countOf c live from n) (setsOf c) ≤ mostCounted
 count-bound c live test from n k h =
     omega (arith, sumWhere-bound test (countOf c live from n) (setsOf c) 15 (λ s l. omega (arith, count-below c live from n s, largest-few n h)))
 
@@ -195,6 +195,6 @@ countBy-rise c live planes test test' more =
     sumWhere-rise test test' (countOf c live 0 planes) (countOf c live 0 planes) (setsOf c) (setsOf c) (le-refl (setsOf c))
     (λ s l e. (more s l e, le-refl (countOf c live 0 planes s)))
 
-pub countBy-bound : (c : ℕ) (live : List ℕ) (planes : ℕ) (test : ℕ → Bool) → c ≤ 2 → planes ≤ 4 → countBy c live planes test ≤ 7680
+pub countBy-bound : (c : ℕ) (live : List ℕ) (planes : ℕ) (test : ℕ → Bool) → c ≤ 2 → planes ≤ 4 → countBy c live planes test ≤ mostCounted
 unfolding countBy
 countBy-bound c live planes test = count-bound c live test 0 planes

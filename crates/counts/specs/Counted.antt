@@ -13,6 +13,10 @@ use Rattle.counts.specs.Planes.{setsOf, countOf}
 unfoldable pub countBy : ℕ → List ℕ → ℕ → (ℕ → Bool) → ℕ
 countBy c live planes test = sumWhere test (countOf c live 0 planes) (setsOf c)
 
+-- no count is larger: 15 blocks, the most of four planes, in each set of two caches
+abbrev pub mostCounted : ℕ
+mostCounted = 7680
+
 -- set s joins the words `before`: `after` has it too, and the others as they were
 pub record Joins (c s : ℕ) (before after : List ℕ) : Type 0 where
   pub set : s < setsOf c

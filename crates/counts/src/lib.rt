@@ -14,9 +14,12 @@ ghost use Rattle.folds.specs.Folds.{countTo};
 ghost use Rattle.bitset.specs.Bits.{member, wordOf};
 ghost use Rattle.bitset.specs.Records.{recordAt};
 ghost use Rattle.counts.specs.Planes.{setsOf, inPlane, countOf, largest};
-ghost use Rattle.counts.specs.Counted.{Counted};
+ghost use Rattle.counts.specs.Counted.{mostCounted, Counted};
 ghost use Rattle.counts.specs.Turns.{Passed};
 ghost use Rattle.counts.specs.Carries.{moves, falls, Rippled};
+
+// No count is larger: 15 blocks, the most of four planes, in each set of two caches.
+pub const MOST_COUNTED: u32 = 7680;
 
 // How many numbers are in plane i and in record j of `ecbs`: the numbers below 256 for one cache, and those below 512 for two.
 fn common(live: &[u64], caches: usize, i: usize, ecbs: &[u64], j: usize) -> u32
@@ -35,7 +38,7 @@ fn common(live: &[u64], caches: usize, i: usize, ecbs: &[u64], j: usize) -> u32
 // the record may be any.
 pub fn count_in(live: &[u64], caches: usize, planes: usize, ecbs: &[u64], j: usize) -> u32
     requires { ⌜ (1 ≤ caches) × (caches ≤ 2) × (4 * (planes * caches) ≤ length (now live)) × (planes ≤ 4) × (8 * j + 7 < length (now ecbs)) ⌝ }
-    ensures { λ r. ⌜ (Counted caches (now (live .entry)) planes (recordAt 8 (now (ecbs .entry)) j) r) × (r ≤ 7680) ⌝ }
+    ensures { λ r. ⌜ (Counted caches (now (live .entry)) planes (recordAt 8 (now (ecbs .entry)) j) r) × (r ≤ mostCounted) ⌝ }
 {
     let mut sum: u32 = 0;
     let mut i = planes;

@@ -1,5 +1,6 @@
 // A row of overheads: word j has γ(i, j) of the task i at hand.
 use super::ECB_WORDS;
+use counts::MOST_COUNTED;
 use counts::count_in;
 use folds::index;
 use folds::larger;
@@ -46,7 +47,7 @@ pub fn raise_if(
     if !test {
         return;
     }
-    let mut most: u32 = 7680;
+    let mut most: u32 = MOST_COUNTED;
     let mut q: usize = 0;
     let mut k = index(higher[0]);
     while 0 < k {

@@ -10,6 +10,7 @@ use Rattle.folds.specs.Folds.{sumWhere}
 use Rattle.bitset.specs.Bits.{member}
 use Rattle.bitset.specs.Records.{recordAt}
 use Rattle.counts.specs.Planes.{setsOf, countOf}
+use Rattle.counts.specs.Counted.{mostCounted}
 use Rattle.counts.proofs.Planes.{apart, sum-none, count-bound, plane-on, counted}
 use Rattle.counts.proofs.count_in.Statement.{statement}
 use Rattle.counts.proofs.count_in.Tie as tie
@@ -36,7 +37,7 @@ holds c =
     )
 
 -- what is summed so far is small
-few : (c : tie.At-loop Inv μ) → c .loop .sum ≤ 7680
+few : (c : tie.At-loop Inv μ) → c .loop .sum ≤ mostCounted
 few c =
     let top = c .before .before .before in
     let a = top .args in
