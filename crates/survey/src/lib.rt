@@ -47,6 +47,7 @@ pub fn survey(
     let mut row = [0u32; 64];
     let mut held = [0u64; 4096];
     let mut marks = [0u32; 2048];
+    let mut higher = [0u32; 64];
     let mut at = cursor::first(board);
     let mut i: usize = 0;
     while i < count {
@@ -59,6 +60,7 @@ pub fn survey(
             &mut row,
             &mut held,
             &mut marks,
+            &mut higher,
         );
         let ecb = task.ecb;
         keep(board, i, ecb, sets, &mut cores, &mut evicted);
@@ -89,7 +91,7 @@ struct Task {
 }
 
 // The figures of task i, whose first trace is `first`. With `rows` the row is raised by what the task adds to γ(i, j) of each higher task j on its core; `ecbs`
-// has the sets that each of those evicts.
+// has the sets that each of those evicts, and `higher` is room to list them in.
 fn survey_task(
     board: &[u32],
     i: usize,
@@ -99,6 +101,7 @@ fn survey_task(
     row: &mut [u32; 64],
     held: &mut [u64; 4096],
     marks: &mut [u32; 2048],
+    higher: &mut [u32; 64],
 ) -> Task
     requires { ⌜ (Ready (now board) i) × (At (now board) i 0 (first .trace) (first .start)) × (Evicted (now board) i (now ecbs))
         × (AllEarlier (baseOf (first .trace)) (now held)) ⌝ }
@@ -113,22 +116,10 @@ fn survey_task(
     let mut md: u32 = 0;
     let mut ecb = bitset::empty();
     let kind = fields::memory(board);
-    let mut higher = [0u32; 64];
-    list_if(rows & (2 <= kind), board, i, &mut higher);
+    list_if(rows & (2 <= kind), board, i, higher);
     let mut r: u32 = 0;
     while r < count {
-        let found = scan_trace(
-            board,
-            i,
-            at,
-            rows,
-            &higher,
-            ecbs,
-            &mut ecb,
-            row,
-            held,
-            marks,
-        );
+        let found = scan_trace(board, i, at, rows, higher, ecbs, &mut ecb, row, held, marks);
         pd = larger(pd, found.pd);
         md = larger(md, found.md);
         at = cursor::next(board, at);

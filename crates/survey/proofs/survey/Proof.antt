@@ -24,12 +24,12 @@ use Rattle.survey.proofs.survey.Statement.{statement}
 use Rattle.survey.proofs.survey.Tie as tie
 
 abbrev Inv : tie.InvT-loop
-Inv b count rows words₀ sets₀ n cores₀ evicted₀ row₀ held₀ marks₀ at₀ i₀ words sets cores evicted row held marks at i =
+Inv b count rows words₀ sets₀ n cores₀ evicted₀ row₀ held₀ marks₀ higher₀ at₀ i₀ words sets cores evicted row held marks higher at i =
     (i ≤ count) × (length words ≡ length words₀) × At b i 0 (at .trace) (at .start) × Cores b i cores × Evicted b i evicted × Held b n i words sets
     × (rows ≡ true → Row b i row × Overheads b n i words) × AllEarlier (baseOf (at .trace)) held
 
 abbrev μ : tie.MeasureT-loop
-μ b count rows words₀ sets₀ n cores₀ evicted₀ row₀ held₀ marks₀ at₀ i₀ words sets cores evicted row held marks at i = count - i
+μ b count rows words₀ sets₀ n cores₀ evicted₀ row₀ held₀ marks₀ higher₀ at₀ i₀ words sets cores evicted row held marks higher at i = count - i
 
 holds : tie.Need-loop-holds Inv μ
 holds c =
@@ -63,20 +63,20 @@ below c = omega (arith, ready c .task, size (c .before))
 
 asks : tie.Need-survey-task-requires Inv μ
 asks c κs =
-    let turn = c .before .before .before .before in
+    let turn = c .before .before .before .before .before in
     let inv = turn .before .loop .inv in
     (ready turn, inv .2, inv .4, inv .7)
 
 keeps : tie.Need-keep-requires Inv μ
 keeps c κs =
     let task = c .before .before .before .before in
-    let turn = task .before .before .before .before .before in
+    let turn = task .before .before .before .before .before .before in
     let inv = turn .before .loop .inv in
     (ready turn, task .survey-task .ensures .2, inv .5 .ecb, inv .3, inv .4)
 
 stores : tie.Need-store-requires Inv μ
 stores c κs =
-    let turn = c .before .before .before .before .before .before .before .before .before .before .before .before in
+    let turn = c .before .before .before .before .before .before .before .before .before .before .before .before .before in
     let at = turn .before in
     let start = at .before .before .before .before .before .before in (
       below turn,
@@ -88,12 +88,12 @@ stores c κs =
 
 fits : tie.Need-add-i Inv μ
 fits c =
-    let turn = c .before .before .before .before .before .before .before .before .before .before .before .before .before .before .before .before in
+    let turn = c .before .before .before .before .before .before .before .before .before .before .before .before .before .before .before .before .before in
     omega (arith, below turn, few (turn .before))
 
 less : tie.Need-loop-less Inv μ
 less c =
-    let turn = c .before .before .before .before .before .before .before .before .before .before .before .before .before .before .before .before in
+    let turn = c .before .before .before .before .before .before .before .before .before .before .before .before .before .before .before .before .before in
     omega (arith, turn .loop-test .taken)
 
 again : tie.Need-loop-again Inv μ
@@ -101,7 +101,7 @@ again c =
     let store = c .before .before .before .store in
     let keep = c .before .before .before .before .before .before .keep in
     let task = c .before .before .before .before .before .before .before .before .before .before .before .survey-task in
-    let turn = c .before .before .before .before .before .before .before .before .before .before .before .before .before .before .before .before in
+    let turn = c .before .before .before .before .before .before .before .before .before .before .before .before .before .before .before .before .before in
     let at = turn .before in
     let start = at .before .before .before .before .before .before in
     let a = start .args in

@@ -20,33 +20,33 @@ use Rattle.survey.proofs.survey_task.Statement.{statement}
 use Rattle.survey.proofs.survey_task.Tie as tie
 
 abbrev Inv : tie.InvT-loop
-Inv b i rows evicted row₀ held₀ marks₀ count at₀ pd₀ md₀ ecb₀ kind higher r₀ row held marks at pd md ecb r =
+Inv b i rows evicted row₀ held₀ marks₀ higher count at₀ pd₀ md₀ ecb₀ kind r₀ row held marks at pd md ecb r =
     (r ≤ count) × At b i r (at .trace) (at .start) × Gathered b i r rows pd md ecb row₀ row × AllEarlier (baseOf (at .trace)) held
 
 abbrev μ : tie.MeasureT-loop
-μ b i rows evicted row₀ held₀ marks₀ count at₀ pd₀ md₀ ecb₀ kind higher r₀ row held marks at pd md ecb r = count - r
+μ b i rows evicted row₀ held₀ marks₀ higher count at₀ pd₀ md₀ ecb₀ kind r₀ row held marks at pd md ecb r = count - r
 
 holds : tie.Need-loop-holds Inv μ
 holds c =
-    let start = c .before .before .before .before .before .before .before in
+    let start = c .before .before .before .before .before .before in
     let a = start .args in
-    (search needs, start .pre .1, gathered-none (now (a .board)) (a .i) (a .rows) (now (a .row)) _ (c .before .before .before .before .empty .ensures), start .pre .3)
+    (search needs, start .pre .1, gathered-none (now (a .board)) (a .i) (a .rows) (now (a .row)) _ (c .before .before .before .empty .ensures), start .pre .3)
 
 ecb-length : (c : tie.At-loop Inv μ) → length (c .loop .ecb) ≡ 8
 ecb-length c = ap length (c .loop .inv .2 .joined) ∙ wordsOf-length 8 _
 
 -- the tasks above, where rows are wanted under a cache
 listed : (c : tie.At-loop Inv μ)
-    → let a = c .before .before .before .before .before .before .before .before .args in
-    a .rows ≡ true → 2 ≤ memory (now (a .board)) → Higher (now (a .board)) (a .i) (c .before .before .list-if .last .1 .1 .1 .0)
+    → let a = c .before .before .before .before .before .before .before .args in
+    a .rows ≡ true → 2 ≤ memory (now (a .board)) → Higher (now (a .board)) (a .i) (c .before .list-if .last .1 .1 .1 .0)
 listed c wanted cached =
-    let kind = c .before .before .before .before .memory in
-    c .before .before .list-if .ensures (ap₂ _&&_ wanted (le-leb 2 (kind .result) (omega (arith, cached, kind .ensures .0))))
+    let kind = c .before .before .before .memory in
+    c .before .list-if .ensures (ap₂ _&&_ wanted (le-leb 2 (kind .result) (omega (arith, cached, kind .ensures .0))))
 
 starts : tie.Need-scan-trace-requires Inv μ
 starts c κs =
     let at = c .before .before .before .before .before .before in
-    let start = at .before .before .before .before .before .before .before .before in (
+    let start = at .before .before .before .before .before .before .before in (
       start .pre .0,
       at-starts _ _ _ _ _ (start .pre .0 .sound) (start .pre .0 .task) (at .loop .inv .1) (omega arith),
       start .pre .2,
@@ -59,15 +59,15 @@ starts-still : tie.Need-next-requires Inv μ
 starts-still c κs =
     let turn = c .before .before .before .before .before .before .before .before .before in
     let at = turn .before in
-    let ready = at .before .before .before .before .before .before .before .before .pre .0 in
-    at-starts _ _ _ _ _ (ready .sound) (ready .task) (at .loop .inv .1) (omega (arith, turn .loop-test .taken, at .before .before .before .before .before .before .trace-count .ensures .0))
+    let ready = at .before .before .before .before .before .before .before .pre .0 in
+    at-starts _ _ _ _ _ (ready .sound) (ready .task) (at .loop .inv .1) (omega (arith, turn .loop-test .taken, at .before .before .before .before .before .trace-count .ensures .0))
 
 again : tie.Need-loop-again Inv μ
 again c =
     let found = c .before .before .before .before in
     let turn = found .before .before .before .before .before .before in
     let at = turn .before in
-    let start = at .before .before .before .before .before .before .before .before in
+    let start = at .before .before .before .before .before .before .before in
     let a = start .args in
     let next = c .next .ensures in
     let is = found .scan-trace .ensures in (
@@ -81,14 +81,14 @@ again c =
 returns : tie.Need-returns Inv μ
 returns c =
     let at = c .before in
-    let start = at .before .before .before .before .before .before .before .before in
+    let start = at .before .before .before .before .before .before .before in
     let a = start .args in
-    let end : at .loop .r ≡ traceCount (now (a .board)) (a .i) = omega (arith, at .loop .inv .0, c .loop-test .left, at .before .before .before .before .before .before .trace-count .ensures .0) in
+    let end : at .loop .r ≡ traceCount (now (a .board)) (a .i) = omega (arith, at .loop .inv .0, c .loop-test .left, at .before .before .before .before .before .trace-count .ensures .0) in
     let all = gathered-all (now (a .board)) (a .i) (a .rows) (now (a .row)) _ _ _ _ _ end (at .loop .inv .2) in
     (all .0, all .1, all .2, at-task _ _ _ _ _ (at .loop .inv .1) end, all .3, at .loop .inv .3)
 
 pub survey-task-spec : {M : Type 1} → statement M
 survey-task-spec =
     tie.close
-    (tie.spec Inv μ (λ c κs. search needs) (λ c κs. search needs) (λ c κs. search needs) (λ c. search needs) (λ c κs. (c .before .before .before .before .before .pre .0, search needs)) holds
+    (tie.spec Inv μ (λ c κs. search needs) (λ c κs. search needs) (λ c κs. search needs) (λ c κs. (c .before .before .before .before .before .pre .0, search needs)) holds
     (λ c. sym (ecb-length (c .before .before .before))) starts (λ c κs. search needs) (λ c κs. search needs) starts-still (λ c. search needs) (λ c. search needs) again returns)
