@@ -20,8 +20,8 @@
  *   ZUZGRAVEL_SPENT    2
  *   ZUZGRAVEL_REFUSED  3    the row of the refusal table     the place
  *
- * Stack that a call needs, on x86-64: 72 KiB for zuzgravel_figures, zuzgravel_analyse, zuzgravel_analyse_in_order and
- * zuzgravel_make_up, 88 KiB for zuzgravel_overhead and zuzgravel_weigh. `harness/stack` measures it; some 3 KiB of each are for the
+ * Stack that a call needs, on x86-64: 56 KiB for zuzgravel_figures, zuzgravel_analyse, zuzgravel_analyse_in_order and
+ * zuzgravel_make_up, 72 KiB for zuzgravel_overhead and zuzgravel_weigh. `harness/stack` measures it; some 3 KiB of each are for the
  * dynamic linker, which may have to bind memset and memcpy, the only functions of C that are called.
  */
 #ifndef ZUZGRAVEL_H
