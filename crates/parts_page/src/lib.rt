@@ -71,7 +71,7 @@ fn reason_line(out: &mut [u8], at: usize, reason: u32) -> usize
     put_name(out, next, index(reason) - 1, b'\n')
 }
 
-// Puts the lines after the parts, of a task by its number from 1: their sum, the deadline and the reason, at most 89 bytes.
+// Puts the lines after the parts, of a task by its number from 1: their sum, the deadline, the largest time that is not late and the reason, at most 123 bytes.
 fn last_lines(
     out: &mut [u8],
     at: usize,
@@ -80,15 +80,21 @@ fn last_lines(
     parts: SumParts,
     reason: u32,
 ) -> usize
-    requires { ⌜ Printable (now board) task (Parts parts reason) × (at + 89 ≤ length (now out)) ⌝ }
+    requires { ⌜ Printable (now board) task (Parts parts reason) × (at + 123 ≤ length (now out)) ⌝ }
     ensures { λ r. ⌜ Put (now (out .entry)) at (lastLines (now (board .entry)) (task - 1) (listed parts) reason) (now (out .exit)) r ⌝ }
 {
     let first = number_line(out, at, b"sum", add_parts(parts));
-    let next = number_line(
+    let second = number_line(
         out,
         first,
         b"deadline",
         wide(fields::deadline(board, task - 1)),
+    );
+    let next = number_line(
+        out,
+        second,
+        b"largest-time",
+        wide(terms::rows::bound(board, task - 1)),
     );
     reason_line(out, next, reason)
 }

@@ -166,8 +166,8 @@ fn refusals_in_order() {
 #[test]
 fn the_page() {
     let page = |w: &[u32], argument: &str| make_up_page(&bytes(w), argument.as_bytes(), FIVE);
-    let one = "own-work 5\nhigher-work 0\ncore-accesses 15\nother-accesses 10\nblocking-access 5\nrefreshes 0\nsum 35\ndeadline 100\nreason 3 core-accesses\n";
-    let two = "own-work 4\nhigher-work 0\ncore-accesses 10\nother-accesses 10\nblocking-access 5\nrefreshes 0\nsum 29\ndeadline 60\nreason 3 core-accesses\n";
+    let one = "own-work 5\nhigher-work 0\ncore-accesses 15\nother-accesses 10\nblocking-access 5\nrefreshes 0\nsum 35\ndeadline 100\nlargest-time 100\nreason 3 core-accesses\n";
+    let two = "own-work 4\nhigher-work 0\ncore-accesses 10\nother-accesses 10\nblocking-access 5\nrefreshes 0\nsum 29\ndeadline 60\nlargest-time 60\nreason 3 core-accesses\n";
     assert_eq!((page(&k1(), "1").as_str(), page(&k1(), "0002").as_str()), (one, two));
     assert_eq!(page(&with(&k1(), &[(22, 34)]), "1"), one.replace("100", "34"));
     assert_eq!(page(&with(&k1(), &[(12, 3)]), "1"), "spent 3\n");
