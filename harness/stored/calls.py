@@ -48,9 +48,14 @@ def weigh(words, number, times):
     return ' '.join(['3', task(number), *map(str, times)]), ask(words, 'weigh', str(number), *map(str, times))
 
 
+def caps_of(words):
+    """D - J + 1 of each task; 1 where J is above D."""
+    return [max(words[22 + 5 * k] - words[24 + 5 * k], 0) + 1 for k in range(words[1])]
+
+
 def weighs(words, *kinds):
     """The sum of the last task at times of each kind."""
-    caps = [words[22 + 5 * k] + 1 for k in range(words[1])]
+    caps = caps_of(words)
     times = {'zeros': [0] * len(caps), 'own 0': caps[:-1] + [0], 'halves': [cap // 2 for cap in caps], 'caps': caps}
     return [weigh(words, len(caps), times[kind]) for kind in kinds]
 

@@ -2,7 +2,7 @@
 import functools, os, struct, subprocess
 
 HARNESS = os.path.dirname(os.path.dirname(os.path.abspath(__file__)))
-LEVEL = '6'  # of the reference: the changes of document 02 that the library has
+LEVEL = '7'  # of the reference: the changes of document 02 that the library has
 
 
 def reference(program, *words, **given):

@@ -4,7 +4,7 @@ from stored.boards import K1, LONGEST, NO_WAYS, READ, TOP, WAYS, WORDS, WRITE, b
 FAULTS = {
     2: lambda b: edit(b, (19, 1)),
     3: lambda b: b + [0],
-    4: lambda b: edit(b, (24, 1)),
+    4: lambda b: edit(b, (24, b[22] + 1)),
     5: lambda b: edit(b, (23, b[23] + 1)),
     6: lambda b: edit(b, (lengths_at(b), 1025)),
     7: lambda b: edit(b, (lengths_at(b), b[lengths_at(b)] + 1)),

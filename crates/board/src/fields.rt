@@ -198,6 +198,14 @@ pub fn trace_count(board: &[u32], k: usize) -> u32
     task_word(board, k, 3)
 }
 
+// J of task k, its release jitter.
+pub fn jitter(board: &[u32], k: usize) -> u32
+    requires { ⌜ (Sound (now board)) × (k < at.tasks (now board)) ⌝ }
+    ensures { λ r. ⌜ (r ≡ at.jitter (now (board .entry)) k) × (r ≤ at.deadline (now (board .entry)) k) × (r ≤ at.longest) ⌝ }
+{
+    task_word(board, k, 4)
+}
+
 // The length of trace t.
 pub fn trace_length(board: &[u32], t: usize) -> u32
     requires { ⌜ (Sound (now board)) × (t < at.traces (now board)) ⌝ }

@@ -1,4 +1,5 @@
 -- Laws of one pass.
 pub mod Sums
+pub mod FullJitter
 pub mod Halves
 pub mod Kept

@@ -9,7 +9,7 @@ use lib.Dec.{ltb}
 use lib.ListN.{length, getD, replicate}
 use Rattle.folds.specs.Folds.{tabulate, sumTo, sameList, firstFrom}
 
--- what an analysis is about: tasks 0 .. count - 1, the largest time of each that is not late (D_i), and its sum at given times (Sum_i)
+-- what an analysis is about: tasks 0 .. count - 1, the largest time of each that is not late (D_i − J_i), and its sum at given times (Sum_i)
 pub record System : Type 0 where
   pub count : ℕ
   pub bound : ℕ → ℕ
@@ -17,7 +17,7 @@ pub record System : Type 0 where
 
 -- ---- a pass
 
--- the next time of task i: min(Sum_i, D_i + 1)
+-- the next time of task i: min(Sum_i, D_i − J_i + 1)
 abbrev pub capped : System → List ℕ → ℕ → ℕ
 capped S R i = min (S .sum R i) (S .bound i + 1)
 
@@ -25,7 +25,7 @@ capped S R i = min (S .sum R i) (S .bound i + 1)
 unfoldable pub pass : System → List ℕ → List ℕ
 pass S R = tabulate (capped S R) (S .count)
 
--- Σ(D_i + 1), which the times of all tasks together never exceed
+-- Σ(D_i − J_i + 1), which the times of all tasks together never exceed
 abbrev pub ceiling : System → ℕ
 ceiling S = sumTo (λ i. S .bound i + 1) (S .count)
 

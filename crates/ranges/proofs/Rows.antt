@@ -29,10 +29,6 @@ pub taskRow : (b : List ℕ) (i : ℕ) {k : ℕ} → i % 5 ≡ k → getD (taskR
 unfolding taskOk
 taskRow b i e = entry (taskRanges b i) (word b i) e
 
-pub taskSpare : (b : List ℕ) (i : ℕ) → 4 ≤ i % 5 → isZero (word b i) ≡ taskOk b i
-unfolding taskOk taskRanges
-taskSpare b i h = ap (λ (f : ℕ → Bool). f (word b i)) (sym (List·getD-eq-default (taskRanges b i) isZero h))
-
 -- ---- what the last arm of a `match` knows, after arms for 0 .. k - 1: the number is at least k
 
 abbrev pub Avoids : ℕ → ℕ → Type 0

@@ -51,13 +51,14 @@ headerRanges b =
 unfoldable pub headerOk : List ℕ → ℕ → Bool
 headerOk b i = getD (headerRanges b) i isZero (word b i)
 
--- the range of each word of a task, word i of the board: core, T, D (up to T, the word before it), trace count; the word past these is spare
+-- the range of each word of a task, word i of the board: core, T, D (up to T, the word before it), trace count, J (up to D, two words before it)
 unfoldable pub taskRanges : List ℕ → ℕ → List (ℕ → Bool)
 taskRanges b i =
     within 1 (cores b)
     ∷ within 1 longest
     ∷ within 1 (word b (i - 1))
     ∷ within 1 8
+    ∷ within 0 (word b (i - 2))
     ∷ []
 
 -- the tasks start at word 20, so word i of the board is word i mod 5 of its task

@@ -92,7 +92,7 @@ fn header_ok(board: &[u32], i: usize) -> bool
     }
 }
 
-// The tasks start at word 20, so word i of the board is word i mod 5 of its task: core, T, D, trace count, spare.
+// The tasks start at word 20, so word i of the board is word i mod 5 of its task: core, T, D, trace count, J.
 fn task_ok(board: &[u32], i: usize) -> bool
     requires { ⌜ (20 ≤ length (now board)) × (i < length (now board)) ⌝ }
     ensures { λ r. ⌜ r ≡ taskOk (now (board .entry)) i ⌝ }
@@ -104,7 +104,7 @@ fn task_ok(board: &[u32], i: usize) -> bool
         1 => within(1, LONGEST, x),
         2 => within(1, board[i - 1], x),
         3 => within(1, 8, x),
-        _ => x == 0,
+        _ => within(0, board[i - 2], x),
     }
 }
 

@@ -12,7 +12,7 @@ use Rattle.board.specs.Layout as at
 use Rattle.board.specs.Layout.{word, kindOf, blockOf}
 use Rattle.board.specs.Sound.{Between, Sound}
 use Rattle.ranges.specs.Ranges.{within, testIf, rangeIf, setsOrHeld, headerRanges, headerOk, taskRanges, taskOk, lengthOk, fetchOk, workOk}
-use Rattle.ranges.proofs.Rows.{headerSpare, taskRow, taskSpare}
+use Rattle.ranges.proofs.Rows.{headerSpare, taskRow}
 use Rattle.refusals.specs.Refusals.{firstBad, refuseFirst, refusalOf}
 use Rattle.refusals.specs.declared.Verdict.the-variants.{Passed}
 use Rattle.refusals.proofs.Searches.{firstBad-pass, firstBad-none}
@@ -97,7 +97,11 @@ module _ (b : List ℕ) (s : Sound b) where
       ∙ ap (λ (i : ℕ). within 1 (word b i) (at.deadline b k)) before
       ∙ within-is 1 _ _ (s .deadline k l)
   task k (suc (suc (suc zero))) l u = sym (taskRow b (20 + 5 * k + 3) {k = 3} (omega arith)) ∙ within-is 1 8 _ (s .traceCount k l)
-  task k (suc (suc (suc (suc zero)))) l u = sym (taskSpare b (20 + 5 * k + 4) (omega arith)) ∙ eq-eqb _ 0 (s .taskSpare k l)
+  task k (suc (suc (suc (suc zero)))) l u =
+      let before : 20 + 5 * k + 4 - 2 ≡ 20 + 5 * k + 2 = omega arith in
+      sym (taskRow b (20 + 5 * k + 4) {k = 4} (omega arith))
+      ∙ ap (λ (i : ℕ). within 0 (word b i) (at.jitter b k)) before
+      ∙ within-is 0 _ _ (omega arith, s .jitter k l)
   task k (suc (suc (suc (suc (suc f))))) l u = absurd (omega arith)
 
   task-word : (p : ℕ) → p < 5 * at.tasks b → taskOk b (20 + p) ≡ true

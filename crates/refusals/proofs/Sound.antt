@@ -167,7 +167,9 @@ module _ (b : List ℕ) (e : refusalOf b ≡ Passed) where
         subst (λ (i : ℕ). Between 1 (word b i) (at.deadline b k)) before
         (within-true 1 _ _ (field k 2 l (omega arith)));
     traceCount = λ k l. within-true 1 8 _ (field k 3 l (omega arith));
-    taskSpare = λ k l. eqb-true _ 0 (field k 4 l (omega arith));
+    jitter = λ k l.
+        let before : 20 + 5 * k + 4 - 2 ≡ 20 + 5 * k + 2 = omega arith in
+        subst (λ (i : ℕ). at.jitter b k ≤ word b i) before (within-true 0 _ _ (field k 4 l (omega arith)) .1);
     traceSum = eqb-true _ _ (refuseUnless-passed 5 _ _ (rows .4));
     traceLength = λ t l. within-true 1 1024 _ (refuseFirst-passed 6 (lengthOk b) (at.lengthsAt b) (at.fetchesAt b) (rows .5) (at.lengthsAt b + t) (omega arith) (omega arith));
     lengthSum = eqb-true _ _ (refuseUnless-passed 7 _ _ (rows .6));

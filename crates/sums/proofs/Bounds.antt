@@ -1,25 +1,26 @@
--- A task's sum is below 2^64 on every board that passes its checks, at times of at most D + 1, on every bus and with every refresh.
+-- A task's sum is below 2^64 on every board that passes its checks, at times of at most D − J + 1, on every bus and with every refresh. It is at least d.
 -- Assumes nothing.
 use Prim.Native.Nat.{ℕ, zero, suc, _+_, _-_, _*_, _/_, _^_, _≤_, _<_, min}
 use mathlib.Core.Bool.{Bool}
 use mathlib.Core.List.{List}
 use mathlib.Core.Logic.{⊎-elim}
 use mathlib.Core.Path.{_≡_, ap}
-use native.Mathlib.Nat.{le-trans, le-refl, mul-div-cancel, mul-le-mul}
+use native.Mathlib.Nat.{le-trans, le-refl, add-mul, one-mul, mul-div-cancel, mul-le-mul}
 use native.Mathlib.Omega.{arith}
 use lib.Dec.{eqb}
 use lib.ListN.{getD}
 use Rattle.folds.specs.Folds.{ceilDiv, sumWhere}
 use Rattle.folds.proofs.Numbers.{le-or-lt, ceilDiv-self}
 use Rattle.folds.proofs.Folds.{sumWhere-bound}
-use Rattle.board.specs.Layout.{mostTasks, mostRefreshRows, cores, tasks, bus, slotsEach, slots, accessCycles, refresh, refreshInterval, refreshRows, refreshCycles, core, period, deadline}
+use Rattle.board.specs.Layout.{mostTasks, longest, mostRefreshRows, cores, tasks, bus, slotsEach, slots, accessCycles, refresh, refreshInterval, refreshRows, refreshCycles, core, period, jitter}
 use Rattle.board.specs.Sound.{Sound}
 use Rattle.figures.specs.Figures.{taskPD}
 use Rattle.figures.proofs.Overhead.{γ-bound}
 use Rattle.figures.proofs.Bounds.{taskPD-bound, taskMD-bound}
-use Rattle.sums.specs.Sums.{lowest, memoryDemand, isOther, isBefore, isAfter, overCores, window, ownAccesses, carryIn, coreAccesses, interference, busAccesses, refreshes, higherWork, taskSum}
+use Rattle.sums.specs.Sums.{lowest, addedJitter, releases, memoryDemand, isOther, isBefore, isAfter, overCores, window, ownAccesses, carryIn, coreAccesses, interference, busAccesses, refreshes, higherWork, taskSum}
 use Rattle.sums.specs.Limits.{mostCores, mostSlots, longestAccess, latestTime, mostWork, mostDemand, mostReleases, longestWindow, mostCarryIn, mostOwnAccesses, mostHigherWork, mostAccesses, mostInterference, mostBusAccesses}
 use Rattle.sums.specs.Inputs.{CappedTimes, ownCosts}
+use Rattle.sums.proofs.Jitter.{addedJitter-few}
 use Rattle.sums.proofs.Rising.{carry-mono}
 
 -- a sum of at most l terms
@@ -34,9 +35,20 @@ demand-bound b s j k h = omega (arith, taskMD-bound b s k h, γ-bound b s j k)
 pub work-bound : (b : List ℕ) → Sound b → (k : ℕ) → k < tasks b → taskPD b k ≤ mostWork
 work-bound b s k h = omega (arith, taskPD-bound b s k h)
 
--- D + 1
+-- D − J + 1, and D + 1 with J
 pub time-bound : (b R : List ℕ) → Sound b → CappedTimes b R → (k : ℕ) → k < tasks b → getD R k 0 ≤ latestTime
 time-bound b R s times k h = omega (arith, times .short k h, s .deadline k h .1, s .period k h .1)
+
+pub jittered-bound : (b R : List ℕ) → Sound b → CappedTimes b R → (k : ℕ) → k < tasks b → getD R k 0 + jitter b k ≤ latestTime
+jittered-bound b R s times k h = omega (arith, times .short k h, s .jitter k h, s .deadline k h .1, s .period k h .1)
+
+pub jitter-bound : (b : List ℕ) → Sound b → (i k : ℕ) → k < tasks b → addedJitter b i k ≤ longest
+jitter-bound b s i k h = omega (arith, addedJitter-few b i k, s .jitter k h, s .deadline k h .1, s .period k h .1)
+
+-- the one access under way
+pub taskSum-least : (b R : List ℕ) (i : ℕ) → accessCycles b ≤ taskSum b R i
+unfolding taskSum busAccesses
+taskSum-least b R i = omega (arith, add-mul (ownAccesses b R i + interference b R i (bus b)) 1 (accessCycles b), one-mul (accessCycles b))
 
 slots-bound : (b : List ℕ) → Sound b → slotsEach b ≤ mostSlots
 slots-bound b s = ⊎-elim (λ (h : 3 ≤ bus b). s .slots h .1) (λ (h : bus b < 3). omega (arith, s .noSlots h)) (le-or-lt 3 (bus b))
@@ -57,7 +69,7 @@ module _ (b R : List ℕ) (s : Sound b) (times : CappedTimes b R) where
         let most : longestWindow * T / T ≡ longestWindow = mul-div-cancel longestWindow (s .period k h .0) in
         omega (
           arith,
-          carry-mono m T (accessCycles b) (window b R t j k) (longestWindow * T) (omega (arith, time-bound b R s times k h, s .period k h .0)),
+          carry-mono m T (accessCycles b) (window b R t j k) (longestWindow * T) (omega (arith, jittered-bound b R s times k h, s .period k h .0)),
           ap (λ (q : ℕ). m * q) most,
           demand-bound b s j k h,
         )
@@ -77,12 +89,15 @@ module _ (b R : List ℕ) (s : Sound b) (times : CappedTimes b R) where
     late : getD R i 0 ≤ latestTime
     late = time-bound b R s times i task
 
+    pub releases-bound : (k : ℕ) → k < tasks b → releases b i k (getD R i 0) ≤ mostReleases
+    releases-bound k h = le-trans (ceilDiv-self (getD R i 0 + addedJitter b i k) (period b k)) (omega (arith, late, jitter-bound b s i k h))
+
     -- the releases of the tasks below n on its core, at a cost of at most m each
     pub ownCosts-bound : (cost : ℕ → ℕ) (m n : ℕ) → n ≤ i + 1 → ((k : ℕ) → k < tasks b → cost k ≤ m)
         → ownCosts b R i cost n ≤ mostTasks * (mostReleases * m)
     ownCosts-bound cost m n few small =
         where-bound n mostTasks (mostReleases * m) (λ k. eqb (core b k) (core b i)) _ (omega (arith, s .tasks .1))
-        (λ k h. mul-le-mul (le-trans (ceilDiv-self (getD R i 0) (period b k)) late) (small k (omega arith)))
+        (λ k h. mul-le-mul (releases-bound k (omega arith)) (small k (omega arith)))
 
     pub ownAccesses-bound : ownAccesses b R i ≤ mostOwnAccesses
     unfolding ownAccesses

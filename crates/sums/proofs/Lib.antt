@@ -1,4 +1,5 @@
 -- The laws of a task's sum.
+pub mod Jitter
 pub mod Rising
 pub mod TimesRead
 pub mod SixParts

@@ -1,5 +1,5 @@
 -- A task's sum never falls when the times that it reads rise, its own and, where the bus is not TDMA, those of the tasks on other cores,
--- when work rises, when periods fall, and when more refreshes are put off: one proof over the five buses and the three forms of refresh. The two boards may be one.
+-- when work rises, when periods fall, when releases may be later, and when more refreshes are put off: one proof over the five buses and the three forms of refresh. The two boards may be one.
 -- Every part is a sum of terms, each a demand times a rounded quotient of a time, or W. W rises with its window u: as long as u stays in
 -- one period, what is left of it grows; when u enters a further period, W gains a whole D', which the part left never exceeds. A shorter
 -- period leaves more of u, or enters a further period.
@@ -17,12 +17,13 @@ use borrow.Author.Tests.{ltb-true, eqb-true, eqb-false, not-true}
 use Rattle.folds.specs.Folds.{ceilDiv}
 use Rattle.folds.proofs.Numbers.{Shorter, shorter-same, div-rise, ceilDiv-rise, ceilDiv-mono}
 use Rattle.folds.proofs.Folds.{sumWhere-rise}
-use Rattle.board.specs.Layout.{word, cores, tasks, bus, slots, accessCycles, refresh, refreshInterval, refreshRows, refreshCycles, putOff, core, period}
+use Rattle.board.specs.Layout.{word, cores, tasks, bus, slots, accessCycles, refresh, refreshInterval, refreshRows, refreshCycles, putOff, core, period, jitter}
 use Rattle.folds.proofs.Numbers.{and-both}
 use Rattle.figures.specs.Figures.{taskPD}
-use Rattle.sums.specs.Sums.{lowest, memoryDemand, isOther, isBefore, isAfter, overCores, window, ownAccesses, carryIn, coreAccesses, lowerAccesses, interference, busAccesses, refreshes, higherWork, taskSum}
+use Rattle.sums.specs.Sums.{lowest, releases, memoryDemand, isOther, isBefore, isAfter, overCores, window, ownAccesses, carryIn, coreAccesses, lowerAccesses, interference, busAccesses, refreshes, higherWork, taskSum}
 use Rattle.sums.specs.Inputs.{ownCosts}
 use Rattle.sums.proofs.Numbers.{product-cong}
+use Rattle.sums.proofs.Jitter.{addedJitter-rise}
 
 -- W rises with its window, and when the period falls
 pub carry-rise : (m d : ℕ) {S T : ℕ} → Shorter S T → (u v : ℕ) → u ≤ v
@@ -52,13 +53,14 @@ module _ (x : ℕ) where
   after-leaves : Leaves x (isAfter x)
   after-leaves y e same = omega (arith, ltb-true)
 
--- the sums of board b' are those of b with as much work or more, periods as long or shorter, and as many refreshes put off or more: of all else
--- that a sum reads they have the same
+-- the sums of board b' are those of b with as much work or more, periods as long or shorter, as much jitter or more, and as many refreshes put off
+-- or more: of all else that a sum reads they have the same
 pub record Heavier (b b' : List ℕ) : Type 0 where
   pub header : (i : ℕ) → i < 12 → word b i ≡ word b' i
   pub putOff : putOff b ≤ putOff b'
   pub cores : (k : ℕ) → k < tasks b → core b k ≡ core b' k
   pub periods : (k : ℕ) → k < tasks b → Shorter (period b' k) (period b k)
+  pub jitters : (k : ℕ) → k < tasks b → jitter b k ≤ jitter b' k
   pub work : (k : ℕ) → k < tasks b → taskPD b k ≤ taskPD b' k
   pub demands : (j k : ℕ) → j < tasks b → k < tasks b → memoryDemand b j k ≡ memoryDemand b' j k
 
@@ -69,6 +71,7 @@ heavier-same b = record {
   putOff = le-refl _;
   cores = λ k h. refl;
   periods = λ k h. shorter-same (period b k);
+  jitters = λ k h. le-refl _;
   work = λ k h. le-refl _;
   demands = λ j k h l. refl;
 }
@@ -107,7 +110,7 @@ module _ (b b' R R' : List ℕ) (heavier : Heavier b b') where
         let same = heavier .demands j k l h in
         let u = window b R t j k in
         let v = window b' R' t' j k in
-        let rise : u ≤ v = omega (arith, product-cong same same-access) in
+        let rise : u ≤ v = omega (arith, product-cong same same-access, heavier .jitters k h) in
         omega (
           arith,
           carry-rise (memoryDemand b j k) (accessCycles b) (heavier .periods k h) u v rise,
@@ -152,13 +155,16 @@ module _ (b b' R R' : List ℕ) (heavier : Heavier b b') where
     same-core : core b i ≡ core b' i
     same-core = heavier .cores i task
 
+    releases-rise : (k : ℕ) → k < tasks b → releases b i k t ≤ releases b' i k t'
+    releases-rise k h = ceilDiv-rise (heavier .periods k h) _ _ (omega (arith, own, addedJitter-rise b b' i k (heavier .jitters k h)))
+
     -- the releases of the tasks below n on its core, at a cost that rises
     ownCosts-rise : (cost cost' : ℕ → ℕ) (n : ℕ) → n ≤ i + 1 → ((k : ℕ) → k < tasks b → cost k ≤ cost' k)
         → ownCosts b R i cost n ≤ ownCosts b' R' i cost' n
     ownCosts-rise cost cost' n few more =
         sumWhere-rise (λ k. eqb (core b k) (core b i)) (λ k. eqb (core b' k) (core b' i)) _ _ _ _ (le-refl n)
         (λ k h e. let l : k < tasks b = omega arith in
-        (on-core k l same-core e, mul-le-mul (ceilDiv-rise (heavier .periods k l) t t' own) (more k l)))
+        (on-core k l same-core e, mul-le-mul (releases-rise k l) (more k l)))
 
     ownAccesses-rise : ownAccesses b R i ≤ ownAccesses b' R' i
     unfolding ownAccesses

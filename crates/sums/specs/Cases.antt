@@ -40,3 +40,10 @@ K8 = set (set (set (set K7 8 2) 9 20) 10 1) 11 3
 -- K8 with p refreshes put off
 abbrev pub K8-putOff : ℕ → List ℕ
 K8-putOff p = set K8 16 p
+
+-- K1 with these jitters; and with both tasks on core 1
+abbrev pub K1-jitter : ℕ → ℕ → List ℕ
+K1-jitter first second = set (set K1 24 first) 29 second
+
+abbrev pub K1-oneCore : ℕ → ℕ → List ℕ
+K1-oneCore first second = set (K1-jitter first second) 25 1

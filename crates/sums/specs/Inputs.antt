@@ -1,4 +1,4 @@
--- For the code: what the code of a sum is handed: lists that begin with the tasks' figures, and times of at most D + 1; and what its first
+-- For the code: what the code of a sum is handed: lists that begin with the tasks' figures, and times of at most D − J + 1; and what its first
 -- loop adds up.
 -- Assumes nothing.
 use Prim.Native.Nat.{ℕ, _+_, _*_, _≤_, _<_}
@@ -18,7 +18,7 @@ pub record Holds (n : ℕ) (f : ℕ → ℕ) (l : List ℕ) : Type 0 where
   pub long : n ≤ length l
   pub at : (k : ℕ) → k < n → getD l k 0 ≡ f k
 
--- a time of at most D + 1 for each task
+-- a time of at most D − J + 1 for each task
 pub record CappedTimes (b R : List ℕ) : Type 0 where
   pub long : tasks b ≤ length R
   pub short : (k : ℕ) → k < tasks b → getD R k 0 ≤ bound b k + 1

@@ -1,4 +1,4 @@
--- For the code: how large the numbers of a sum can be, on a board that passed its checks and at times of at most D + 1. It stays below
+-- For the code: how large the numbers of a sum can be, on a board that passed its checks and at times of at most D − J + 1. It stays below
 -- 2^64 by them: proofs/Bounds.antt proves each, and a reader of the definitions can pass this file by.
 -- Assumes nothing.
 use Prim.Native.Nat.{ℕ, _+_, _-_, _*_, _^_}
@@ -20,7 +20,7 @@ longestAccess = 255
 
 -- ---- of one task
 
--- a time: D + 1
+-- a time: D − J + 1; and with J: D + 1
 abbrev pub latestTime : ℕ
 latestTime = longest + 1
 
@@ -32,11 +32,11 @@ mostWork = 2 ^ 22
 abbrev pub mostDemand : ℕ
 mostDemand = 2 ^ 13
 
--- ceil(t/T)
+-- ceil((t + J)/T)
 abbrev pub mostReleases : ℕ
-mostReleases = latestTime
+mostReleases = latestTime + longest
 
--- u, which is at most t + R_k
+-- u, which is at most t + R_k + J_k
 abbrev pub longestWindow : ℕ
 longestWindow = 2 * latestTime
 
@@ -66,4 +66,4 @@ mostInterference = (mostCores - 1) * mostSlots * mostOwnAccesses
 
 -- B, and the refreshes
 abbrev pub mostBusAccesses : ℕ
-mostBusAccesses = 2 ^ 53
+mostBusAccesses = 2 ^ 54

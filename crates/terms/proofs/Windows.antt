@@ -19,6 +19,6 @@ pub window-short : (m d T u : ℕ) → u < T → min m (ceilDiv u d) ≡ m * (u 
 window-short m d T u h = rw (div-eq-of-lt h, mod-eq-of-lt h, mul-zero m, zero-add)
 
 -- equal numbers give an equal W
-pub carry-cong : (t : ℕ) {m d T r u m' d' T' r' : ℕ} → m ≡ m' → d ≡ d' → T ≡ T' → r ≡ r' → u ≡ t + r - m * d
-    → m * (u / T) + min m (ceilDiv (u % T) d) ≡ m' * ((t + r' - m' * d') / T') + min m' (ceilDiv ((t + r' - m' * d') % T') d')
-carry-cong t m d T r u = cc
+pub carry-cong : {m d T u m' d' T' u' : ℕ} → m ≡ m' → d ≡ d' → T ≡ T' → u ≡ u'
+    → m * (u / T) + min m (ceilDiv (u % T) d) ≡ m' * (u' / T') + min m' (ceilDiv (u' % T') d')
+carry-cong m d T u = cc

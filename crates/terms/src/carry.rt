@@ -2,6 +2,7 @@
 use crate::rows::demand;
 use crate::rows::time;
 use board::fields::access_cycles;
+use board::fields::jitter;
 use board::fields::period;
 use folds::ceil_div;
 use folds::floor_div;
@@ -55,7 +56,8 @@ pub fn carry_in(board: &[u32], row: &[u32], times: &[u32], t: u64, j: usize, k: 
 {
     let d = wide(access_cycles(board));
     let accesses = demand(board, row, j, k);
-    let span = t + time(board, times, k);
+    let late = wide(jitter(board, k));
+    let span = t + time(board, times, k) + late;
     let busy = accesses * d;
     in_window(accesses, d, wide(period(board, k)), less(span, busy))
 }

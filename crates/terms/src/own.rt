@@ -1,4 +1,5 @@
 // The releases of the tasks of one core.
+use crate::rows::added_jitter;
 use crate::rows::demand;
 use crate::rows::time;
 use crate::rows::work;
@@ -23,12 +24,13 @@ pub struct OwnSums {
     pub work: u64,
 }
 
-// ceil(t/T_k): the releases of task k within the time of task i.
+// ceil((t + J_k)/T_k), and ceil(t/T_k) where k is i: the releases of task k within the time of task i.
 fn releases(board: &[u32], times: &[u32], i: usize, k: usize) -> u64
     requires { ⌜ (Sound (now board)) × CappedTimes (now board) (now times) × (i < at.tasks (now board)) × (k < at.tasks (now board)) ⌝ }
     ensures { λ r. ⌜ (r ≡ spec.releases (now (board .entry)) i k (getD (now (times .entry)) i 0)) × (r ≤ mostReleases) ⌝ }
 {
-    ceil_div_tested(time(board, times, i), wide(period(board, k)))
+    let span = time(board, times, i) + added_jitter(board, i, k);
+    ceil_div_tested(span, wide(period(board, k)))
 }
 
 // The sums with the releases of task k added.

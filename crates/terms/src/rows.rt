@@ -1,4 +1,6 @@
 // One accessor a list: the number of task k, with its range.
+use board::fields::deadline;
+use board::fields::jitter;
 use folds::wide;
 ghost use mathlib.Core.Path.{_≡_};
 ghost use Prim.Native.Nat.{_<_, _≤_};
@@ -27,12 +29,20 @@ pub fn demand(board: &[u32], row: &[u32], j: usize, k: usize) -> u64
     wide(row[k])
 }
 
-// The largest time of task k that is not late.
+// The largest time of task k that is not late: D − J.
 pub fn bound(board: &[u32], k: usize) -> u32
     requires { ⌜ (Sound (now board)) × (k < at.tasks (now board)) ⌝ }
     ensures { λ r. ⌜ (r ≡ spec.bound (now (board .entry)) k) × (r ≤ at.longest) ⌝ }
 {
-    board::fields::deadline(board, k)
+    deadline(board, k) - jitter(board, k)
+}
+
+// What the jitter of task k adds where its releases delay task i: J, and nothing where they are one task.
+pub fn added_jitter(board: &[u32], i: usize, k: usize) -> u64
+    requires { ⌜ (Sound (now board)) × (k < at.tasks (now board)) ⌝ }
+    ensures { λ r. ⌜ (r ≡ spec.addedJitter (now (board .entry)) i k) × (r ≤ at.longest) ⌝ }
+{
+    if k == i { 0 } else { wide(jitter(board, k)) }
 }
 
 // The time of task k.

@@ -5,4 +5,4 @@ pub mod library;
 pub mod orders;
 
 /// The level of document 02 that the product stands at: its requests up to this one are in it.
-pub const RULES: oracle::board::Rules = oracle::board::Rules { level: 6 };
+pub const RULES: oracle::board::Rules = oracle::board::Rules { level: 7 };

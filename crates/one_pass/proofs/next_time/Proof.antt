@@ -1,7 +1,6 @@
 -- `one_pass::next_time` meets its contract.
 -- Assumes nothing.
-use Prim.Native.Nat.{ℕ, _+_, min}
-use mathlib.Core.Path.{sym, ap, ap₂, _∙_}
+use mathlib.Core.Path.{sym}
 use native.Mathlib.Omega.{arith}
 use lib.Seq.{length-take-le}
 use borrow.Author.Needs.{needs}
@@ -20,7 +19,4 @@ next-time-spec =
     (λ c κs. search needs)
     (λ c κs. search needs)
     (λ c. search needs)
-    (λ c.
-    c .smaller .ensures
-    ∙ ap₂ min (c .before .before .before .sum-along .ensures)
-    (c .before .wide .ensures .0 ∙ ap (λ (d : ℕ). d + 1) (c .before .before .bound .ensures .0))))
+    (λ c. omega (arith, c .smaller .ensures, c .before .before .before .sum-along .ensures)))

@@ -308,7 +308,7 @@ fn try_beside_analyse(t: &mut Tally, w: &[u32], order: &[u32]) {
 }
 
 /// How the time of the late task, or of any, is made up, beside the library's own Analyse: it is spent or refused where that is, and leaves the same times;
-/// the six numbers add up to the task's time, or, where it is late, to more than its deadline.
+/// the six numbers add up to the task's time, or, where it is late, to more than its largest time that is not.
 fn try_make_up_beside_analyse(t: &mut Tally, r: &mut Rng, w: &[u32], n: usize) {
     let ((analysed, _), times) = with_room(Settling::Analyse, w);
     let late = analysed.code == LATE;
@@ -319,12 +319,18 @@ fn try_make_up_beside_analyse(t: &mut Tally, r: &mut Rng, w: &[u32], n: usize) {
     let sum: u128 = parts.numbers.iter().map(|&x| x as u128).sum();
     match analysed.code {
         VALUE => t.same(format_args!("the sum of the six numbers of task {task}"), w, sum, times[task - 1] as u128),
-        LATE => t.same(format_args!("that the six numbers of late task {task} exceed its deadline"), w, sum > w[17 + 5 * task] as u128, true),
+        LATE => t.same(format_args!("that the six numbers of late task {task} exceed D - J"), w, sum > largest_time(w, task - 1) as u128, true),
         _ => t.same("the answer of make up beside analyse", w, reply, analysed),
     }
     if reply.code == VALUE {
         *t.reasons.entry(reply.answer[0]).or_default() += 1;
     }
+}
+
+/// D - J of task k, from 0: its largest time that is not late. A damaged board may not have these words, or a J above D.
+fn largest_time(w: &[u32], k: usize) -> u32 {
+    let word = |at: usize| w.get(at + 5 * k).copied().unwrap_or(0);
+    word(22).saturating_sub(word(24))
 }
 
 fn try_figures(t: &mut Tally, r: &mut Rng, w: &[u32], n: usize) {
@@ -365,7 +371,7 @@ fn try_overhead_and_weigh(t: &mut Tally, r: &mut Rng, w: &[u32], n: usize) {
     }
     for _ in 0..4 {
         let i = task(r, n);
-        let caps: Vec<u32> = (0..n).map(|k| w.get(22 + 5 * k).copied().unwrap_or(0).saturating_add(1)).collect();
+        let caps: Vec<u32> = (0..n).map(|k| largest_time(w, k).saturating_add(1)).collect();
         let mut times: Vec<u32> = caps.iter().map(|&c| if r.chance(15) { c } else { r.range(0, c) }).collect();
         match r.range(0, 15) {
             0 => {

@@ -8,9 +8,15 @@ use Rattle.terms.proofs.own.releases.Statement.{statement}
 use Rattle.terms.proofs.own.releases.Tie as tie
 
 returns : tie.Need-returns
-returns c = (c .ceil-div-tested .ensures .0 ∙ ap₂ ceilDiv (c .before .before .before .time .ensures .0) (c .before .wide .ensures .0 ∙ c .before .before .period .ensures .0), omega arith)
+returns c =
+    let jitter = c .before .before .before in (
+      c .ceil-div-tested .ensures .0
+          ∙ ap₂ ceilDiv (omega (arith, jitter .before .time .ensures .0, jitter .added-jitter .ensures .0))
+          (c .before .wide .ensures .0 ∙ c .before .before .period .ensures .0),
+      omega arith,
+    )
 
 pub releases-spec : {M : Type 1} → statement M
 releases-spec =
     tie.close
-    (tie.spec (λ c κs. search needs) (λ c κs. search needs) (λ c κs. search needs) (λ c κs. search needs) returns)
+    (tie.spec (λ c κs. search needs) (λ c κs. search needs) (λ c. search needs) (λ c κs. search needs) (λ c κs. search needs) (λ c κs. search needs) returns)
