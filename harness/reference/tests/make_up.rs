@@ -49,26 +49,6 @@ fn k1_and_its_kin() {
     assert_eq!((made(&off, 1), made(&off, 2)), (([5, 0, 15, 15, 5, 21], 6), ([4, 0, 10, 10, 5, 15], 6)));
 }
 
-/// A board of tasks (core, T, D, cycles, accesses), each with one trace that executes: the first instruction has the cycles. Two cores, FIFO bus, d = 5, a
-/// scratchpad that holds block 0, fetched first, and none after; limit 100.
-fn board(tasks: &[[u32; 5]], set: &[(usize, u32)]) -> Vec<u32> {
-    let lengths: Vec<u32> = tasks.iter().map(|task| 1 + task[4]).collect();
-    let (n, g) = (tasks.len() as u32, lengths.iter().sum());
-    let mut w = with(&[0; 20], &[(0, 2), (1, n), (2, n), (3, g), (4, 1), (5, 2), (7, 5), (12, 100), (13, 1)]);
-    for task in tasks {
-        w.extend([task[0], task[1], task[2], 1, 0]);
-    }
-    w.extend(&lengths);
-    for task in tasks {
-        w.extend(0..=task[4]);
-    }
-    for task in tasks {
-        w.push(task[3] << 16);
-        w.extend(vec![0; task[4] as usize]);
-    }
-    with(&w, set)
-}
-
 /// Two tasks on one core, d = 1, the first with T = 10: within t the second meets c = ceil(t/10) releases of it. Work 2 and 20, one access each: the sum of
 /// task 2 is 20 + 2c + (1 + c + 1), from 21 at 0 to 34, where c = 4. Work 7 and 1: 1 + 7c + (1 + c + 1), from 2 to 19, where c = 2.
 #[test]

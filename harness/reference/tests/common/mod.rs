@@ -19,6 +19,26 @@ pub fn with(w: &[u32], set: &[(usize, u32)]) -> Vec<u32> {
     v
 }
 
+/// A board of tasks (core, T, D, cycles, accesses), each with one trace that executes: the first instruction has the cycles. Two cores, FIFO bus, d = 5, a
+/// scratchpad that holds block 0, fetched first, and none after; limit 100.
+pub fn board(tasks: &[[u32; 5]], set: &[(usize, u32)]) -> Vec<u32> {
+    let lengths: Vec<u32> = tasks.iter().map(|task| 1 + task[4]).collect();
+    let (n, g) = (tasks.len() as u32, lengths.iter().sum());
+    let mut w = with(&[0; 20], &[(0, 2), (1, n), (2, n), (3, g), (4, 1), (5, 2), (7, 5), (12, 100), (13, 1)]);
+    for task in tasks {
+        w.extend([task[0], task[1], task[2], 1, 0]);
+    }
+    w.extend(&lengths);
+    for task in tasks {
+        w.extend(0..=task[4]);
+    }
+    for task in tasks {
+        w.push(task[3] << 16);
+        w.extend(vec![0; task[4] as usize]);
+    }
+    with(&w, set)
+}
+
 /// The page of an input, by `literal`, `fast` and both forms of `plain` alike.
 pub fn agree(bytes: &[u8], rules: Rules) -> String {
     let page = page::page(bytes, rules);
