@@ -60,6 +60,13 @@ pub fn without_putting_off(r: &mut Rng, w: &[u32]) -> Vec<u32> {
     with_put_off(w, p)
 }
 
+/// The board with a jitter above the deadline of a task.
+pub fn above_deadline(r: &mut Rng, w: &[u32]) -> Vec<u32> {
+    let at = 20 + 5 * r.range(0, w[1] - 1) as usize;
+    let (period, above) = (w[at + 1], w[at + 2] + 1);
+    with_word(w, at + 4, r.pick(&[above, period.max(above), period + 1, u32::MAX]))
+}
+
 /// One trace a task, long ones over many blocks, in one cache and in two, of few and of many sets, all of them of so many ways.
 pub fn long_traces(seed: u64, ways: u32) -> [Vec<u32>; 6] {
     [(2, 16, 0), (2, 256, 0), (3, 16, 16), (3, 16, 256), (3, 256, 16), (3, 256, 256)].map(|(memory, code, data)| {
@@ -103,7 +110,8 @@ pub fn extreme(r: &mut Rng) -> Vec<u32> {
         let t = r.pick(&[1, 2, MAX_PERIOD - 1, MAX_PERIOD]);
         let d = if r.chance(70) { t } else { r.range(1, t) };
         let core = if r.chance(60) { r.pick(&[1, cores]) } else { r.range(1, cores) };
-        w.extend([core, t, d, 1, 0]);
+        let j = if r.chance(60) { 0 } else { r.pick(&[1, d / 2, d - 1, d]) };
+        w.extend([core, t, d, 1, j]);
     }
     w.extend(vec![len; n as usize]);
     let span = r.pick(&[1u32, 300, 32_767]);

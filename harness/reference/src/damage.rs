@@ -37,6 +37,19 @@ fn sets_in_every_memory(w: &[u32], level: u32) -> Vec<(String, Vec<u32>)> {
     out
 }
 
+/// J one below the deadline, at and past the period, and the largest word; those around the deadline are there at every level.
+fn jitters_at_ends(w: &[u32]) -> Vec<(String, Vec<u32>)> {
+    let (n, mut out) = (w[1] as usize, vec![]);
+    for t in [0, n / 2, n - 1] {
+        let at = 20 + 5 * t;
+        let (period, deadline) = (w[at + 1], w[at + 2]);
+        for j in [deadline - 1, period, period + 1, u32::MAX] {
+            out.push((format!("t{t}_4_{j}"), with_word(w, at + 4, j)));
+        }
+    }
+    out
+}
+
 /// Damaged copies of a valid board: (name, bytes).
 pub fn damaged(r: &mut Rng, w: &[u32], level: u32) -> Vec<(String, Vec<u8>)> {
     let mut out: Vec<(String, Vec<u8>)> = vec![];
@@ -82,6 +95,11 @@ pub fn damaged(r: &mut Rng, w: &[u32], level: u32) -> Vec<(String, Vec<u8>)> {
     }
     if level >= 4 {
         for (name, v) in sets_in_every_memory(w, level) {
+            put(name, &v);
+        }
+    }
+    if level >= 7 {
+        for (name, v) in jitters_at_ends(w) {
             put(name, &v);
         }
     }

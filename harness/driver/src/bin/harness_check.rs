@@ -75,6 +75,8 @@ struct Tally {
     two_caches: BTreeMap<u32, [usize; 2]>,
     /// Boards with distributed refresh that are not refused, by their word 16, and those of them with another answer or other times than with 0.
     put_off: BTreeMap<u32, [usize; 2]>,
+    /// Boards with some jitter that are not refused, and those of them with another answer or other times than with none.
+    jitter: [usize; 2],
 }
 
 impl Tally {
@@ -87,7 +89,7 @@ impl Tally {
         }
     }
 
-    /// Counts a board that is not refused by its ways, and by the refreshes that it puts off.
+    /// Counts a board that is not refused by its ways, by the refreshes that it puts off, and where it has jitter.
     fn count(&mut self, w: &[u32]) {
         let Ok(b) = check_board(w, RULES) else { return };
         match b.memory() {
@@ -97,6 +99,9 @@ impl Tally {
         }
         if b.refresh() == 2 {
             count_beside(self.put_off.entry(w[16]).or_default(), w, &with_put_off(w, 0));
+        }
+        if (1..=b.n()).any(|i| b.jitter(i) > 0) {
+            count_beside(&mut self.jitter, w, &with_jitter(w, |_| 0));
         }
     }
 }
@@ -440,6 +445,20 @@ fn try_board(t: &mut Tally, r: &mut Rng, programs: &Programs, w: &[u32]) {
     try_pages(t, r, programs, &bytes_of(w), n);
 }
 
+/// What was counted.
+fn report(t: &Tally) {
+    for (call, answers) in &t.answers {
+        println!("answers of {call}: {answers:?}");
+    }
+    println!("reasons of make up, of the late task or of any one: {:?}", t.reasons);
+    println!("boards with one cache that are not refused, by word 15: {:?}", t.ways);
+    println!("boards with two that are not refused, by word 15, and those with another answer or other times than in one: {:?}", t.two_caches);
+    println!("boards with distributed refresh that are not refused, by word 16, and those with another answer or other times than with 0: {:?}", t.put_off);
+    println!("boards with jitter that are not refused, and those with another answer or other times than with none: {:?}", t.jitter);
+    println!("in order beside analyse: {} boards not spent, {} of them with fewer passes", t.settled_twice, t.fewer_passes);
+    println!("{} boards, {} calls, {} pages, {} differences", t.boards, t.calls, t.pages, t.differences);
+}
+
 fn main() {
     let a: Vec<String> = std::env::args().collect();
     let number = |k: usize, otherwise: u64| match a.get(k) {
@@ -465,7 +484,7 @@ fn main() {
             try_board(&mut t, &mut r, &programs, &w);
         }
         if k % 40 == 0 {
-            for w in [without_ways(&mut r, &w), without_sets(&mut r, &w), without_putting_off(&mut r, &w)] {
+            for w in [without_ways(&mut r, &w), without_sets(&mut r, &w), without_putting_off(&mut r, &w), above_deadline(&mut r, &w)] {
                 try_board(&mut t, &mut r, &programs, &w);
             }
         }
@@ -494,6 +513,7 @@ fn main() {
         try_board(&mut t, &mut r, &programs, &largest_edge_in_ways(seed + 8, bus, 1, WAYS[bus as usize]));
         try_board(&mut t, &mut r, &programs, &largest_edge_in_two_caches(seed + 8, bus, 1, WAYS[bus as usize]));
         try_board(&mut t, &mut r, &programs, &largest_edge_put_off(seed + 9, 2, bus, 8, MOST_PUT_OFF));
+        try_board(&mut t, &mut r, &programs, &largest_edge_with_jitter(seed + 10, 2, bus, 8, |d| d / 8));
     }
     for ways in WAYS {
         try_board(&mut t, &mut r, &programs, &most_useful_board(ways));
@@ -522,14 +542,6 @@ fn main() {
             try_pages(&mut t, &mut r, &programs, &input[..end], w[1] as usize);
         }
     }
-    for (call, answers) in &t.answers {
-        println!("answers of {call}: {answers:?}");
-    }
-    println!("reasons of make up, of the late task or of any one: {:?}", t.reasons);
-    println!("boards with one cache that are not refused, by word 15: {:?}", t.ways);
-    println!("boards with two that are not refused, by word 15, and those with another answer or other times than in one: {:?}", t.two_caches);
-    println!("boards with distributed refresh that are not refused, by word 16, and those with another answer or other times than with 0: {:?}", t.put_off);
-    println!("in order beside analyse: {} boards not spent, {} of them with fewer passes", t.settled_twice, t.fewer_passes);
-    println!("{} boards, {} calls, {} pages, {} differences", t.boards, t.calls, t.pages, t.differences);
+    report(&t);
     std::process::exit((t.differences != 0) as i32);
 }
