@@ -1,5 +1,6 @@
 //! harness_bench [ROUNDS]: the static library beside the reference, in one run: `plain with tests` (plain 64-bit arithmetic) and `fast` (tuned);
-//! Analyse in order and how a time is made up also beside the library's own Analyse, and with refreshes put off also beside the library with none.
+//! Analyse in order and how a time is made up also beside the library's own Analyse, and with refreshes put off or with jitter also beside the library with
+//! none.
 //! Each line has the product's time, then each other's with the ratio; best of the rounds, taken in turn, buffers not cleared in between.
 use driver::library::{self, RECORD};
 use driver::{orders, RULES};
@@ -110,13 +111,12 @@ fn makings_up(rounds: usize, w: &[u32], task: usize) -> [f64; 4] {
     )
 }
 
-/// Microseconds of a whole Analyse of a board that puts refreshes off: the product, the product where none is, `plain with tests`, `fast`.
-fn analyses_put_off(rounds: usize, w: &[u32]) -> [f64; 4] {
-    let none = with_put_off(w, 0);
+/// Microseconds of a whole Analyse: the product, the product on a plainer board, `plain with tests`, `fast`.
+fn analyses_beside(rounds: usize, w: &[u32], plainer: &[u32]) -> [f64; 4] {
     let (mut x, mut y, mut own, mut z) = (Buffers::new(), Buffers::new(), Buffers::new(), Buffers::new());
     race_in_turn(
         rounds,
-        [&mut || keep(x.product(w)), &mut || keep(own.product(&none)), &mut || keep(y.plain(w)), &mut || keep(z.fast(w))],
+        [&mut || keep(x.product(w)), &mut || keep(own.product(plainer)), &mut || keep(y.plain(w)), &mut || keep(z.fast(w))],
     )
 }
 
@@ -248,23 +248,36 @@ fn climbing_put_off(bus: u32) -> Vec<u32> {
     with_put_off(&w, MOST_PUT_OFF)
 }
 
-/// Passes with eight refreshes put off, one and all, beside the product's own with none and beside the reference.
-fn put_off(rounds: usize) {
-    println!("eight refreshes put off, one pass of 64 tasks on 8 cores: the product, itself with none, `plain with tests`, `fast`");
+/// Passes on boards with something, for each bus one that climbs and a largest one, one pass and all, beside the product's own with none, which `without`
+/// takes away, and beside the reference.
+fn beside_none(rounds: usize, what: &str, boards: impl Fn(u32) -> [Vec<u32>; 2], without: impl Fn(&[u32]) -> Vec<u32>) {
+    println!("{what}, one pass of 64 tasks on 8 cores: the product, itself with none, `plain with tests`, `fast`");
     for bus in 0..5 {
-        let w = climbing_put_off(bus);
-        line(&format!("  bus {bus}, many short times"), &per_pass(&w, 500, 2_500, |w| analyses_put_off(rounds.min(9), w)));
-        let w = largest_edge_put_off(77, 2, bus, 8, MOST_PUT_OFF);
-        let least = passes(&w).min(passes(&with_put_off(&w, 0)));
+        let [climbing, largest] = boards(bus);
+        line(&format!("  bus {bus}, many short times"), &per_pass(&climbing, 500, 2_500, |w| analyses_beside(rounds.min(9), w, &without(w))));
+        let least = passes(&largest).min(passes(&without(&largest)));
         let most = least.saturating_sub(1).max(4) as u32;
-        line(&format!("  bus {bus}, largest board"), &per_pass(&w, 2, most, |w| analyses_put_off(rounds, w)));
+        line(&format!("  bus {bus}, largest board"), &per_pass(&largest, 2, most, |w| analyses_beside(rounds, w, &without(w))));
     }
-    println!("eight refreshes put off, whole Analyse (passes; with none): the same four");
+    println!("{what}, whole Analyse (passes; with none): the same four");
     for bus in 0..5 {
-        let w = largest_edge_put_off(77, 2, bus, 8, MOST_PUT_OFF);
-        let what = format!("  largest, bus {bus}, memory 2, passes {}; {}", passes(&w), passes(&with_put_off(&w, 0)));
-        line(&what, &analyses_put_off(rounds, &w));
+        let [_, w] = boards(bus);
+        let none = without(&w);
+        let what = format!("  largest, bus {bus}, memory 2, passes {}; {}", passes(&w), passes(&none));
+        line(&what, &analyses_beside(rounds, &w, &none));
     }
+}
+
+fn put_off(rounds: usize) {
+    let boards = |bus: u32| [climbing_put_off(bus), largest_edge_put_off(77, 2, bus, 8, MOST_PUT_OFF)];
+    beside_none(rounds, "eight refreshes put off", boards, |w| with_put_off(w, 0));
+}
+
+/// Of the boards that climb, tasks with a deadline below 8 have no jitter; the largest ones have times.
+fn jitter(rounds: usize) {
+    let eighth = |d: u32| d / 8;
+    let boards = |bus: u32| [with_jitter(&climbing_board(64, 8, 20_000, bus, 1_000_000), eighth), largest_edge_with_jitter(77, 2, bus, 8, eighth)];
+    beside_none(rounds, "jitter of an eighth of each deadline", boards, |w| with_jitter(w, |_| 0));
 }
 
 /// Passes in order, one and all, beside the product's own Analyse and beside the reference.
@@ -355,4 +368,5 @@ fn main() {
     put_off(rounds);
     two_caches(rounds);
     made_up(rounds);
+    jitter(rounds);
 }
