@@ -3,7 +3,7 @@
 use Prim.Native.Nat.{ℕ}
 use mathlib.Core.List.{List, [], _∷_}
 use mathlib.Core.Path.{_≡_, refl}
-use lib.ListN.{length, set}
+use lib.ListN.{set}
 use Rattle.folds.specs.Folds.{ceilDiv, sumTo, maxTo, countTo, anyTo, firstFrom, firstLargest, tabulate, fillTo, sameList}
 use Rattle.board.specs.Layout.{firstTrace, firstInstruction}
 use Rattle.ranges.specs.Ranges.{headerRanges, headerOk, taskRanges, taskOk, workOk}
@@ -24,7 +24,6 @@ use Rattle.parts_page.specs.PartsPage.{partName, lastLines}
 use Rattle.answers.specs.declared.Answer.{Answer}
 use Rattle.answers.specs.declared.Answer.the-variants.{Times, Late, Refused}
 use Rattle.answers.specs.declared.Outcome.the-variants.{Value, Refused as Outcome·Refused}
-use Rattle.answers.specs.declared.MadeUp.{MadeUp}
 use Rattle.answers.specs.declared.MadeUp.the-variants.{Parts}
 
 -- Analyse's answer, with buffers that are long enough for two tasks

@@ -124,6 +124,9 @@ sumWhere-rise test test' f g n m h all =
     go true t' rise = rw (rise refl .0) (rise refl .1)
     go false t' rise = zero-le
 
+pub sumWhere-cong : (test : ℕ → Bool) (f g : ℕ → ℕ) (n : ℕ) → ((k : ℕ) → k < n → f k ≡ g k) → sumWhere test f n ≡ sumWhere test g n
+sumWhere-cong test f g n all = sumTo-cong _ _ n (λ k h. ap (onlyIf (test k)) (all k h))
+
 pub sumWhere-bound : (test : ℕ → Bool) (f : ℕ → ℕ) (n m : ℕ) → ((k : ℕ) → k < n → f k ≤ m) → sumWhere test f n ≤ n * m
 sumWhere-bound test f n m all = sumTo-bound _ n m (λ k h. onlyIf-bound (test k) (all k h))
 

@@ -3,3 +3,4 @@ pub mod Sums
 pub mod FullJitter
 pub mod Halves
 pub mod Kept
+pub mod Punctual

@@ -1,6 +1,6 @@
 -- W with the divisions saved, where the accesses all fit into what is left of the window, and where the window is shorter than a period.
 -- Assumes nothing.
-use Prim.Native.Nat.{ℕ, _+_, _-_, _*_, _/_, _%_, _≤_, _<_, min}
+use Prim.Native.Nat.{ℕ, _+_, _*_, _/_, _%_, _≤_, _<_, min}
 use mathlib.Core.Path.{_≡_, sym}
 use native.Mathlib.Nat.{le-trans, le-of-lt, le-of-mul-le-mul-right, min-eq-left, min-eq-right, div-eq-of-lt, mod-eq-of-lt, mul-zero, zero-add}
 use Rattle.folds.specs.Folds.{ceilDiv}
