@@ -62,7 +62,7 @@ def times_limits():
         words = jittered(SHORT, *jitters)
         a, b = caps_of(words)
         chosen = ((a, b), (a + 1, 0), (0, b + 1), (a + 1, b + 1), (a, b + 1), (81, 0), (0, 46), (82, 0), (0, 47), (80, 45), (TOP, 0), (a, b, TOP))
-        calls = [weigh(words, 1 + k % 2, times) for k, times in enumerate(chosen)]
+        calls = [weigh(words, 1 + k // 2 % 2, times) for k, times in enumerate(chosen)]
         yield words, calls + [weigh(words, i, times) for i, times in ((0, (a + 1, 0)), (3, (a + 1, b + 1)), (1, (a + 1,)), (2, ()), (0, (a + 1,)))]
 
 
