@@ -79,27 +79,4 @@ pub jitter-examples :
     × MadeOf (K1-oneCore 62 2) 2 4 10 40 0 5 0 3
     × (lastLines (K1-jitter 66 0) 0 (5 ∷ 0 ∷ 15 ∷ 10 ∷ 5 ∷ 0 ∷ []) 3 ≡ lateLines)
 unfolding ceilDiv sumTo maxTo countTo anyTo firstFrom firstLargest tabulate fillTo sameList firstTrace firstInstruction headerRanges headerOk taskRanges taskOk workOk refuseUnless firstBad refuseFirst refusalOf traceOf loads tracePD busLoads traceMD evicts useful usefulAt mostUseful taskPD taskMD evicting evictedBy reloads γ addedJitter memoryDemand ownAccesses carryIn coreAccesses lowerAccesses interference busAccesses refreshes higherWork taskSum sixParts reason pass after unchanged changes passesBy settledBy firstLate sumParts weighRefusal analyseRefusal makeUpRefusal weighAnswer settledAnswer analyseAnswer timesLeft settledMadeUp makeUpAnswer total digitsOf decimal line partName
-jitter-examples = (
-  (refl, refl),
-  (refl, refl),
-  (refl, refl),
-  refl,
-  refl,
-  refl,
-  refl,
-  refl,
-  refl,
-  (refl, refl),
-  (refl, refl),
-  (refl, refl),
-  refl,
-  (refl, refl),
-  refl,
-  refl,
-  refl,
-  refl,
-  refl,
-  refl,
-  refl,
-  refl,
-)
+jitter-examples = ((refl, refl), (refl, refl), (refl, refl), refl, refl, refl, refl, refl, refl, (refl, refl), (refl, refl), (refl, refl), refl, (refl, refl), refl, refl, refl, refl, refl, refl, refl, refl)

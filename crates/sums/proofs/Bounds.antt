@@ -42,7 +42,7 @@ time-bound b R s times k h = omega (arith, times .short k h, s .deadline k h .1,
 pub jittered-bound : (b R : List ℕ) → Sound b → CappedTimes b R → (k : ℕ) → k < tasks b → getD R k 0 + jitter b k ≤ latestTime
 jittered-bound b R s times k h = omega (arith, times .short k h, s .jitter k h, s .deadline k h .1, s .period k h .1)
 
-pub jitter-bound : (b : List ℕ) → Sound b → (i k : ℕ) → k < tasks b → addedJitter b i k ≤ longest
+jitter-bound : (b : List ℕ) → Sound b → (i k : ℕ) → k < tasks b → addedJitter b i k ≤ longest
 jitter-bound b s i k h = omega (arith, addedJitter-few b i k, s .jitter k h, s .deadline k h .1, s .period k h .1)
 
 -- the one access under way
@@ -89,7 +89,7 @@ module _ (b R : List ℕ) (s : Sound b) (times : CappedTimes b R) where
     late : getD R i 0 ≤ latestTime
     late = time-bound b R s times i task
 
-    pub releases-bound : (k : ℕ) → k < tasks b → releases b i k (getD R i 0) ≤ mostReleases
+    releases-bound : (k : ℕ) → k < tasks b → releases b i k (getD R i 0) ≤ mostReleases
     releases-bound k h = le-trans (ceilDiv-self (getD R i 0 + addedJitter b i k) (period b k)) (omega (arith, late, jitter-bound b s i k h))
 
     -- the releases of the tasks below n on its core, at a cost of at most m each

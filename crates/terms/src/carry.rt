@@ -1,8 +1,7 @@
 // W: the accesses of a task with carry-in.
 use crate::rows::demand;
-use crate::rows::time;
+use crate::rows::time_and_jitter;
 use board::fields::access_cycles;
-use board::fields::jitter;
 use board::fields::period;
 use folds::ceil_div;
 use folds::floor_div;
@@ -56,8 +55,7 @@ pub fn carry_in(board: &[u32], row: &[u32], times: &[u32], t: u64, j: usize, k: 
 {
     let d = wide(access_cycles(board));
     let accesses = demand(board, row, j, k);
-    let late = wide(jitter(board, k));
-    let span = t + time(board, times, k) + late;
+    let span = t + time_and_jitter(board, times, k);
     let busy = accesses * d;
     in_window(accesses, d, wide(period(board, k)), less(span, busy))
 }

@@ -1,8 +1,8 @@
 // The releases of the tasks of one core.
-use crate::rows::added_jitter;
 use crate::rows::demand;
 use crate::rows::time;
 use crate::rows::work;
+use board::fields::jitter;
 use board::fields::period;
 use chains::above;
 use folds::ceil_div_tested;
@@ -24,16 +24,25 @@ pub struct OwnSums {
     pub work: u64,
 }
 
-// ceil((t + J_k)/T_k), and ceil(t/T_k) where k is i: the releases of task k within the time of task i.
-fn releases(board: &[u32], times: &[u32], i: usize, k: usize) -> u64
-    requires { ⌜ (Sound (now board)) × CappedTimes (now board) (now times) × (i < at.tasks (now board)) × (k < at.tasks (now board)) ⌝ }
+// ceil((t + J_k)/T_k): the releases of task k, which is above task i, within the time of task i.
+fn higher_releases(board: &[u32], times: &[u32], i: usize, k: usize) -> u64
+    requires { ⌜ (Sound (now board)) × CappedTimes (now board) (now times) × (i < at.tasks (now board)) × (k < i) ⌝ }
     ensures { λ r. ⌜ (r ≡ spec.releases (now (board .entry)) i k (getD (now (times .entry)) i 0)) × (r ≤ mostReleases) ⌝ }
 {
-    let span = time(board, times, i) + added_jitter(board, i, k);
+    let t = time(board, times, i);
+    let span = t + wide(jitter(board, k));
     ceil_div_tested(span, wide(period(board, k)))
 }
 
-// The sums with the releases of task k added.
+// ceil(t/T_i): the releases of task i itself within its time.
+fn own_releases(board: &[u32], times: &[u32], i: usize) -> u64
+    requires { ⌜ (Sound (now board)) × CappedTimes (now board) (now times) × (i < at.tasks (now board)) ⌝ }
+    ensures { λ r. ⌜ (r ≡ spec.releases (now (board .entry)) i i (getD (now (times .entry)) i 0)) × (r ≤ mostReleases) ⌝ }
+{
+    ceil_div_tested(time(board, times, i), wide(period(board, i)))
+}
+
+// The sums with the releases of task k, which is above task i, added.
 fn with_task(
     sums: OwnSums,
     board: &[u32],
@@ -43,12 +52,12 @@ fn with_task(
     i: usize,
     k: usize,
 ) -> OwnSums
-    requires { ⌜ RowInput (now board) (now own) (now times) i × Holds (at.tasks (now board)) (taskPD (now board)) (now pd) × (k < at.tasks (now board)) ⌝ }
+    requires { ⌜ RowInput (now board) (now own) (now times) i × Holds (at.tasks (now board)) (taskPD (now board)) (now pd) × (k < i) ⌝ }
     requires { ⌜ (sums .accesses ≤ mostOwnAccesses) × (sums .work ≤ mostHigherWork) ⌝ }
     ensures { λ r. ⌜ r .accesses ≡ sums .accesses + releaseCost (now (board .entry)) (now (times .entry)) i (spec.memoryDemand (now (board .entry)) i) k ⌝ }
     ensures { λ r. ⌜ r .work ≡ sums .work + releaseCost (now (board .entry)) (now (times .entry)) i (taskPD (now (board .entry))) k ⌝ }
 {
-    let n = releases(board, times, i, k);
+    let n = higher_releases(board, times, i, k);
     let accesses = n * demand(board, own, i, k);
     let cycles = n * work(board, pd, k);
     OwnSums {
@@ -80,7 +89,7 @@ pub fn released(
         sums = with_task(sums, board, pd, own, times, i, task);
         k = above(board, links, task);
     }
-    let last = releases(board, times, i, i) * demand(board, own, i, i);
+    let last = own_releases(board, times, i) * demand(board, own, i, i);
     OwnSums {
         accesses: sums.accesses + last,
         work: sums.work,

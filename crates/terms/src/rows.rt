@@ -3,7 +3,7 @@ use board::fields::deadline;
 use board::fields::jitter;
 use folds::wide;
 ghost use mathlib.Core.Path.{_≡_};
-ghost use Prim.Native.Nat.{_<_, _≤_};
+ghost use Prim.Native.Nat.{_+_, _<_, _≤_};
 ghost use lib.ListN.{getD};
 ghost use Rattle.board.specs.Layout as at;
 ghost use Rattle.board.specs.Sound.{Sound};
@@ -37,18 +37,18 @@ pub fn bound(board: &[u32], k: usize) -> u32
     deadline(board, k) - jitter(board, k)
 }
 
-// What the jitter of task k adds where its releases delay task i: J, and nothing where they are one task.
-pub fn added_jitter(board: &[u32], i: usize, k: usize) -> u64
-    requires { ⌜ (Sound (now board)) × (k < at.tasks (now board)) ⌝ }
-    ensures { λ r. ⌜ (r ≡ spec.addedJitter (now (board .entry)) i k) × (r ≤ at.longest) ⌝ }
-{
-    if k == i { 0 } else { wide(jitter(board, k)) }
-}
-
 // The time of task k.
 pub fn time(board: &[u32], times: &[u32], k: usize) -> u64
     requires { ⌜ (Sound (now board)) × CappedTimes (now board) (now times) × (k < at.tasks (now board)) ⌝ }
     ensures { λ r. ⌜ (r ≡ getD (now (times .entry)) k 0) × (r ≤ latestTime) ⌝ }
 {
     wide(times[k])
+}
+
+// The time of task k and its jitter, R + J: added as 32-bit words, which hold it.
+pub fn time_and_jitter(board: &[u32], times: &[u32], k: usize) -> u64
+    requires { ⌜ (Sound (now board)) × CappedTimes (now board) (now times) × (k < at.tasks (now board)) ⌝ }
+    ensures { λ r. ⌜ (r ≡ getD (now (times .entry)) k 0 + at.jitter (now (board .entry)) k) × (r ≤ latestTime) ⌝ }
+{
+    wide(times[k] + jitter(board, k))
 }

@@ -7,7 +7,6 @@ use mathlib.Core.Path.{_∙_}
 use Rattle.sums.specs.Sums.{carryIn}
 use Rattle.sums.specs.Limits.{longestAccess, mostDemand}
 use Rattle.sums.proofs.Numbers.{product-cong, product-fits}
-use Rattle.sums.proofs.Bounds.{jittered-bound}
 use Rattle.terms.proofs.Windows.{carry-cong}
 use Rattle.terms.proofs.carry.carry_in.Statement.{statement}
 use Rattle.terms.proofs.carry.carry_in.Tie as tie
@@ -15,23 +14,15 @@ use Rattle.terms.proofs.carry.carry_in.Tie as tie
 returns : tie.Need-returns
 unfolding carryIn
 returns c =
-    let t = c .before .before .before .before in
-    let m = t .before .before .before in
+    let m = c .before .before .before .before .before in
     let d = m .before .wide .ensures .0 ∙ m .before .before .access-cycles .ensures .0 in
     c .in-window .ensures
-    ∙ carry-cong (m .demand .ensures .0) d (c .before .before .wide3 .ensures .0 ∙ c .before .before .before .period .ensures .0)
-    (omega (arith, c .before .less .ensures, t .time .ensures .0, t .before .wide2 .ensures .0, product-cong (m .demand .ensures .0) d))
-
-in-window-requires : tie.Need-in-window-requires
-in-window-requires c κs =
-    let s = c .before .before .before .before .before .before .before .before .before .before .before .before in
-    let p = s .pre .0 in
-    (omega arith, (omega arith, omega arith), (omega arith, omega arith), omega (arith, jittered-bound _ _ (p .sound) (p .times) (s .args .k) (s .pre .2)))
+    ∙ carry-cong (m .demand .ensures .0) d (c .before .before .wide2 .ensures .0 ∙ c .before .before .before .period .ensures .0)
+    (omega (arith, c .before .less .ensures, product-cong (m .demand .ensures .0) d))
 
 pub carry-in-spec : {M : Type 1} → statement M
 carry-in-spec =
     tie.close
-    (tie.spec (λ c κs. search needs) (λ c κs. search needs) (λ c κs. search needs) (λ c κs. search needs) (λ c κs. search needs) (λ c κs. search needs)
-    (λ c. search needs) (λ c. search needs)
+    (tie.spec (λ c κs. search needs) (λ c κs. search needs) (λ c κs. search needs) (λ c κs. search needs) (λ c. search needs)
     (λ c. product-fits mostDemand longestAccess (omega arith) (omega arith) (lit< tt))
-    (λ c κs. search needs) (λ c κs. search needs) (λ c κs. search needs) in-window-requires returns)
+    (λ c κs. search needs) (λ c κs. search needs) (λ c κs. search needs) (λ c κs. search needs) returns)

@@ -99,7 +99,7 @@ add-last c =
     omega (
       arith,
       few-accesses (c .before .before .before .before),
-      product-bound {x = c .before .before .releases .result} {y = c .before .demand .result} mostReleases mostDemand (omega arith) (omega arith),
+      product-bound {x = c .before .before .own-releases .result} {y = c .before .demand .result} mostReleases mostDemand (omega arith) (omega arith),
     )
 
 returns : tie.Need-returns Inv-loop μ-loop
@@ -109,7 +109,7 @@ returns c =
     let s = start l in
     let end : l .loop .k ≤ 0 = omega (arith, c .before .before .before .loop-test .left) in (
       ownCosts-last (s .args .board .now) (s .args .times .now) (s .args .i) (demands s)
-          (traversed-end (on s) (cost s (demands s)) _ (l .loop .inv .0) end) (c .before .before .releases .ensures .0) (c .before .demand .ensures .0),
+          (traversed-end (on s) (cost s (demands s)) _ (l .loop .inv .0) end) (c .before .before .own-releases .ensures .0) (c .before .demand .ensures .0),
       traversed-end (on s) (cost s (taskPD (s .args .board .now))) _ (l .loop .inv .1) end,
     )
 

@@ -10,16 +10,16 @@ use Rattle.sums.proofs.Numbers.{product-cong, product-bound, product-fits}
 use Rattle.terms.proofs.own.with_task.Statement.{statement}
 use Rattle.terms.proofs.own.with_task.Tie as tie
 
-more-accesses : (c : tie.After-work) → c .before .before .releases .result * c .before .demand .result ≤ mostReleases * mostDemand
+more-accesses : (c : tie.After-work) → c .before .before .higher-releases .result * c .before .demand .result ≤ mostReleases * mostDemand
 more-accesses c = product-bound mostReleases mostDemand (omega arith) (omega arith)
 
-more-work : (c : tie.After-work) → c .before .before .releases .result * c .work .result ≤ mostReleases * mostWork
+more-work : (c : tie.After-work) → c .before .before .higher-releases .result * c .work .result ≤ mostReleases * mostWork
 more-work c = product-bound mostReleases mostWork (omega arith) (omega arith)
 
 returns : tie.Need-returns
 returns c =
     let s = c .before .before .before .before .before .before .before .before .before in
-    let n = c .before .before .before .before .releases .ensures .0 in (
+    let n = c .before .before .before .before .higher-releases .ensures .0 in (
       ap (λ (v : ℕ). s .args .sums .accesses + v) (product-cong n (c .before .before .before .demand .ensures .0)),
       ap (λ (v : ℕ). s .args .sums .work + v) (product-cong n (c .before .before .work .ensures .0)),
     )
