@@ -1,6 +1,7 @@
 /*
- * Zuzgravel: worst-case response times of the tasks of a multicore controller, as upper bounds: no task takes longer, as long as every
- * core runs the board's tasks as recorded and none of them is released more often than its period.
+ * Zuzgravel: worst-case response times of the tasks of a multicore controller, as upper bounds: no task takes longer from its release
+ * on, as long as every core runs the board's tasks as recorded and none of them is due more often than its period or released later
+ * than its jitter after it is due.
  *
  * The six calls of the proved library (`rt staticlib capi` writes target/staticlib/libcapi.a). Each call takes every input: it
  * tests what it is given and refuses with the number and the place of the refusal table (README.md). No call keeps a pointer,
@@ -67,7 +68,8 @@ uint32_t zuzgravel_overhead(const uint32_t *board, size_t board_words, size_t i,
 
 /*
  * Weigh: the value is the sum of task i, numbered from 1, at these times.
- * Refuses with rows 1 to 9, 10 for i, 11 where there are fewer than n times, and 14 at the first time above its deadline + 1.
+ * Refuses with rows 1 to 9, 10 for i, 11 where there are fewer than n times, and 14 at the first time above D - J + 1, its deadline
+ * less its jitter and one more.
  */
 uint32_t zuzgravel_weigh(const uint32_t *board, size_t board_words, const uint32_t *times, size_t times_words, size_t i,
                          uint64_t answer[2]);
@@ -97,11 +99,11 @@ uint32_t zuzgravel_analyse_in_order(const uint32_t *board, size_t board_words, u
  * Make up: how the time of a task, numbered from 1, is made up. Six numbers of cycles go to `parts`, at the times at which the passes of
  * zuzgravel_analyse end: the task's own work; the work of the higher tasks of its core; the bus accesses of its core, its own among
  * them; the accesses from other cores, or their slots; the one access that blocks it; refreshes. They add up to the task's time where
- * the board has times, and to more than its deadline where the task is late. ZUZGRAVEL_VALUE is the code of both; the value, the
- * reason, is the number of the largest, from 1, and of equals that of the earliest. A board that is late gives the numbers of every
- * task, its other tasks too. The code is ZUZGRAVEL_SPENT where that of zuzgravel_analyse is, and never ZUZGRAVEL_LATE; with it, and
- * where the call is refused, the six words of `parts` stay as they were. `times`, `scratch` and `records` are left as by
- * zuzgravel_analyse: `times` is filled where no task of the board is late, and else stays as it was.
+ * the board has times, and to more than D - J, its deadline less its jitter, where the task is late. ZUZGRAVEL_VALUE is the code of
+ * both; the value, the reason, is the number of the largest, from 1, and of equals that of the earliest. A board that is late gives the
+ * numbers of every task, its other tasks too. The code is ZUZGRAVEL_SPENT where that of zuzgravel_analyse is, and never
+ * ZUZGRAVEL_LATE; with it, and where the call is refused, the six words of `parts` stay as they were. `times`, `scratch` and `records`
+ * are left as by zuzgravel_analyse: `times` is filled where no task of the board is late, and else stays as it was.
  * Refuses with rows 1 to 9, 10 for the task, 11 (times), 12 (scratch) and 13 (records), with the places of zuzgravel_analyse.
  */
 uint32_t zuzgravel_make_up(const uint32_t *board, size_t board_words, uint32_t *times, size_t times_words, uint32_t *scratch,
