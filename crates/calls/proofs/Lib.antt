@@ -1,7 +1,4 @@
--- Demand 3 of the definitions, passes in order beside Analyse's, and what the proofs of the calls share.
-pub mod Demand
-pub mod InOrder
-pub mod MakeUp
+-- What the proofs of the calls share.
 pub mod Table
 pub mod Steps
 pub mod Loans

@@ -9,17 +9,13 @@ pub use figures::Figure;
 pub use interference::SumParts;
 use refusals::Verdict;
 ghost use mathlib.Core.Path.{_≡_};
-ghost use Prim.Native.Nat.{_-_};
 ghost use lib.ListN.{length};
-ghost use Rattle.board.specs.Layout.{mostTasks, passLimit};
-ghost use Rattle.refusals.specs.declared.Verdict.the-variants.{Passed};
-ghost use Rattle.passes.specs.Visits.{inOrder};
+ghost use Rattle.board.specs.Layout.{mostTasks};
 ghost use Rattle.answers.specs.Refusals.{figuresRefusal, analyseRefusal, inOrderRefusal, makeUpRefusal};
-ghost use Rattle.answers.specs.Answers.{system, figuresAnswer, overheadAnswer, weighAnswer, analyseAnswer, inOrderAnswer, answerBy, timesAfter, tableAfter, ScratchAfter};
-ghost use Rattle.answers.specs.MakeUp.{makeUpAnswer};
-ghost use Rattle.calls.specs.Demand.{Demand3, Demand3By};
-ghost use Rattle.calls.specs.InOrder.{LikeAnalyse};
-ghost use Rattle.calls.specs.MakeUp.{MadeUpOf};
+ghost use Rattle.answers.specs.Answers.{figuresAnswer, overheadAnswer, weighAnswer, tableAfter};
+ghost use Rattle.promises.specs.Demand.{Analysed};
+ghost use Rattle.promises.specs.InOrder.{AnalysedInOrder};
+ghost use Rattle.promises.specs.MakeUp.{MadeUpAll};
 
 // The response times of a board. Unless refused, the table is filled as `figures` fills it, and the scratch ends with free contents.
 pub fn analyse(
@@ -28,23 +24,16 @@ pub fn analyse(
     scratch: &mut [u32],
     table: &mut [Figure],
 ) -> Answer
-    ensures answer { λ r. ⌜ r ≡ analyseAnswer
-        (now (board .entry)) (length (now (times .entry))) (length (now (scratch .entry))) (length (now (table .entry))) ⌝ }
-    ensures times { λ r. ⌜ now (times .exit) ≡ timesAfter (now (board .entry)) r (now (times .entry)) ⌝ }
+    ensures { λ r. ⌜ Analysed (now (board .entry)) (now (times .entry)) (now (scratch .entry)) (length (now (table .entry)))
+        r (now (times .exit)) (now (scratch .exit)) ⌝ }
     ensures table { λ _. ⌜ now (table .exit) ≡ tableAfter (now (board .entry))
         (analyseRefusal (now (board .entry)) (length (now (times .entry))) (length (now (scratch .entry))) (length (now (table .entry))))
         (now (table .entry)) ⌝ }
-    ensures scratch { λ _. ⌜ ScratchAfter
-        (analyseRefusal (now (board .entry)) (length (now (times .entry))) (length (now (scratch .entry))) (length (now (table .entry))))
-        (now (scratch .entry)) (now (scratch .exit)) ⌝ }
-    ensures demand3 { λ r. ⌜ (analyseRefusal
-        (now (board .entry)) (length (now (times .entry))) (length (now (scratch .entry))) (length (now (table .entry))) ≡ Passed
-        → Demand3 (system (now (board .entry))) (passLimit (now (board .entry))) r (now (times .exit))) ⌝ }
 {
     let mut n: usize = 0;
     let mut words = [0u32; 256];
     let mut sets = [0u64; ECB_WORDS];
-    let answer = call_work::analyse(
+    let answer = works::analyse(
         board,
         times,
         scratch,
@@ -66,27 +55,16 @@ pub fn analyse_in_order<'a>(
     table: &mut [Figure],
     order: &'a [u32],
 ) -> Answer
-    ensures answer { λ r. ⌜ r ≡ inOrderAnswer (now (board .entry))
-        (length (now (times .entry))) (length (now (scratch .entry))) (length (now (table .entry))) (now (order .entry)) ⌝ }
-    ensures times { λ r. ⌜ now (times .exit) ≡ timesAfter (now (board .entry)) r (now (times .entry)) ⌝ }
-    ensures table { λ _. ⌜ now (table .exit) ≡ tableAfter (now (board .entry)) (inOrderRefusal (now (board .entry))
-        (length (now (times .entry))) (length (now (scratch .entry))) (length (now (table .entry))) (now (order .entry))) (now (table .entry)) ⌝ }
-    ensures scratch { λ _. ⌜ ScratchAfter (inOrderRefusal (now (board .entry))
-        (length (now (times .entry))) (length (now (scratch .entry))) (length (now (table .entry))) (now (order .entry)))
-        (now (scratch .entry)) (now (scratch .exit)) ⌝ }
-    ensures demand3 { λ r. ⌜ (inOrderRefusal (now (board .entry))
-        (length (now (times .entry))) (length (now (scratch .entry))) (length (now (table .entry))) (now (order .entry)) ≡ Passed
-        → Demand3By (system (now (board .entry))) (inOrder (system (now (board .entry))) (now (order .entry))) (passLimit (now (board .entry)))
-        r (now (times .exit))) ⌝ }
-    ensures like { λ r. ⌜ (inOrderRefusal (now (board .entry))
-        (length (now (times .entry))) (length (now (scratch .entry))) (length (now (table .entry))) (now (order .entry)) ≡ Passed
-        → LikeAnalyse (now (board .entry)) (length (now (times .entry))) (length (now (scratch .entry))) (length (now (table .entry)))
-        (inOrder (system (now (board .entry))) (now (order .entry))) r) ⌝ }
+    ensures { λ r. ⌜ AnalysedInOrder (now (board .entry)) (now (times .entry)) (now (scratch .entry)) (length (now (table .entry)))
+        (now (order .entry)) r (now (times .exit)) (now (scratch .exit)) ⌝ }
+    ensures table { λ _. ⌜ now (table .exit) ≡ tableAfter (now (board .entry))
+        (inOrderRefusal (now (board .entry)) (length (now (times .entry))) (length (now (scratch .entry))) (length (now (table .entry))) (now (order .entry)))
+        (now (table .entry)) ⌝ }
 {
     let mut n: usize = 0;
     let mut words = [0u32; 256];
     let mut sets = [0u64; ECB_WORDS];
-    let answer = order_work::analyse_in_order(
+    let answer = works::analyse_in_order(
         board,
         times,
         scratch,
@@ -109,24 +87,16 @@ pub fn make_up(
     table: &mut [Figure],
     task: usize,
 ) -> MadeUp
-    ensures answer { λ r. ⌜ r ≡ makeUpAnswer (now (board .entry))
-        (length (now (times .entry))) (length (now (scratch .entry))) (length (now (table .entry))) task ⌝ }
-    ensures times { λ _. ⌜ now (times .exit) ≡ timesAfter (now (board .entry)) (answerBy (makeUpRefusal (now (board .entry))
-        (length (now (times .entry))) (length (now (scratch .entry))) (length (now (table .entry))) task) (now (board .entry))) (now (times .entry)) ⌝ }
-    ensures table { λ _. ⌜ now (table .exit) ≡ tableAfter (now (board .entry)) (makeUpRefusal (now (board .entry))
-        (length (now (times .entry))) (length (now (scratch .entry))) (length (now (table .entry))) task) (now (table .entry)) ⌝ }
-    ensures scratch { λ _. ⌜ ScratchAfter (makeUpRefusal (now (board .entry))
-        (length (now (times .entry))) (length (now (scratch .entry))) (length (now (table .entry))) task)
-        (now (scratch .entry)) (now (scratch .exit)) ⌝ }
-    ensures parts { λ r. ⌜ (makeUpRefusal (now (board .entry))
-        (length (now (times .entry))) (length (now (scratch .entry))) (length (now (table .entry))) task ≡ Passed
-        → MadeUpOf (now (board .entry)) (length (now (times .entry))) (length (now (scratch .entry))) (length (now (table .entry)))
-        (task - 1) r (now (times .exit))) ⌝ }
+    ensures { λ r. ⌜ MadeUpAll (now (board .entry)) (now (times .entry)) (now (scratch .entry)) (length (now (table .entry)))
+        task r (now (times .exit)) (now (scratch .exit)) ⌝ }
+    ensures table { λ _. ⌜ now (table .exit) ≡ tableAfter (now (board .entry))
+        (makeUpRefusal (now (board .entry)) (length (now (times .entry))) (length (now (scratch .entry))) (length (now (table .entry))) task)
+        (now (table .entry)) ⌝ }
 {
     let mut n: usize = 0;
     let mut words = [0u32; 256];
     let mut sets = [0u64; ECB_WORDS];
-    let made = make_up_work::make_up(
+    let made = works::make_up(
         board,
         times,
         scratch,
@@ -142,18 +112,12 @@ pub fn make_up(
 
 // `analyse` for callers that want no figures, as the program: it answers as with a table of 64 records, and meets demand 3 as `analyse` does.
 pub fn analyse_alone(board: &[u32], times: &mut [u32], scratch: &mut [u32]) -> Answer
-    ensures answer { λ r. ⌜ r ≡ analyseAnswer (now (board .entry)) (length (now (times .entry))) (length (now (scratch .entry))) mostTasks ⌝ }
-    ensures times { λ r. ⌜ now (times .exit) ≡ timesAfter (now (board .entry)) r (now (times .entry)) ⌝ }
-    ensures scratch { λ _. ⌜ ScratchAfter
-        (analyseRefusal (now (board .entry)) (length (now (times .entry))) (length (now (scratch .entry))) mostTasks)
-        (now (scratch .entry)) (now (scratch .exit)) ⌝ }
-    ensures demand3 { λ r. ⌜ (analyseRefusal (now (board .entry)) (length (now (times .entry))) (length (now (scratch .entry))) mostTasks ≡ Passed
-        → Demand3 (system (now (board .entry))) (passLimit (now (board .entry))) r (now (times .exit))) ⌝ }
+    ensures { λ r. ⌜ Analysed (now (board .entry)) (now (times .entry)) (now (scratch .entry)) mostTasks r (now (times .exit)) (now (scratch .exit)) ⌝ }
 {
     let mut n: usize = 0;
     let mut words = [0u32; 256];
     let mut sets = [0u64; ECB_WORDS];
-    call_work::analyse(
+    works::analyse(
         board,
         times,
         scratch,
@@ -166,19 +130,12 @@ pub fn analyse_alone(board: &[u32], times: &mut [u32], scratch: &mut [u32]) -> A
 
 // `make_up` for callers that want no figures, as the program: it answers as with a table of 64 records.
 pub fn make_up_alone(board: &[u32], times: &mut [u32], scratch: &mut [u32], task: usize) -> MadeUp
-    ensures answer { λ r. ⌜ r ≡ makeUpAnswer (now (board .entry)) (length (now (times .entry))) (length (now (scratch .entry))) mostTasks task ⌝ }
-    ensures times { λ _. ⌜ now (times .exit) ≡ timesAfter (now (board .entry)) (answerBy (makeUpRefusal
-        (now (board .entry)) (length (now (times .entry))) (length (now (scratch .entry))) mostTasks task) (now (board .entry))) (now (times .entry)) ⌝ }
-    ensures scratch { λ _. ⌜ ScratchAfter
-        (makeUpRefusal (now (board .entry)) (length (now (times .entry))) (length (now (scratch .entry))) mostTasks task)
-        (now (scratch .entry)) (now (scratch .exit)) ⌝ }
-    ensures parts { λ r. ⌜ (makeUpRefusal (now (board .entry)) (length (now (times .entry))) (length (now (scratch .entry))) mostTasks task ≡ Passed
-        → MadeUpOf (now (board .entry)) (length (now (times .entry))) (length (now (scratch .entry))) mostTasks (task - 1) r (now (times .exit))) ⌝ }
+    ensures { λ r. ⌜ MadeUpAll (now (board .entry)) (now (times .entry)) (now (scratch .entry)) mostTasks task r (now (times .exit)) (now (scratch .exit)) ⌝ }
 {
     let mut n: usize = 0;
     let mut words = [0u32; 256];
     let mut sets = [0u64; ECB_WORDS];
-    make_up_work::make_up(
+    works::make_up(
         board,
         times,
         scratch,
@@ -199,7 +156,7 @@ pub fn figures(board: &[u32], table: &mut [Figure]) -> Outcome
     let mut n: usize = 0;
     let mut words = [0u32; 256];
     let mut sets = [0u64; ECB_WORDS];
-    let outcome = call_work::figures(board, table.len(), &mut n, &mut words, &mut sets);
+    let outcome = works::figures(board, table.len(), &mut n, &mut words, &mut sets);
     table::fill(board, n, &words, &sets, table);
     outcome
 }

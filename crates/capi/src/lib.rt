@@ -7,17 +7,14 @@ use replies::reply::of_outcome;
 use replies::table::RECORD_WORDS;
 use replies::table::fill_words;
 ghost use mathlib.Core.Path.{_≡_};
-ghost use Prim.Native.Nat.{_-_};
 ghost use lib.ListN.{length};
-ghost use Rattle.board.specs.Layout.{passLimit};
-ghost use Rattle.refusals.specs.declared.Verdict.the-variants.{Passed};
-ghost use Rattle.passes.specs.Visits.{inOrder};
+ghost use Rattle.answers.specs.declared.Answer.{Answer};
+ghost use Rattle.answers.specs.declared.MadeUp.{MadeUp};
 ghost use Rattle.answers.specs.Refusals.{figuresRefusal, analyseRefusal, inOrderRefusal, makeUpRefusal};
-ghost use Rattle.answers.specs.Answers.{system, figuresAnswer, overheadAnswer, weighAnswer, analyseAnswer, inOrderAnswer, answerBy, timesAfter, ScratchAfter};
-ghost use Rattle.answers.specs.MakeUp.{makeUpAnswer};
-ghost use Rattle.calls.specs.Demand.{Demand3, Demand3By};
-ghost use Rattle.calls.specs.InOrder.{LikeAnalyse};
-ghost use Rattle.calls.specs.MakeUp.{MadeUpOf};
+ghost use Rattle.answers.specs.Answers.{figuresAnswer, overheadAnswer, weighAnswer};
+ghost use Rattle.promises.specs.Demand.{Analysed};
+ghost use Rattle.promises.specs.InOrder.{AnalysedInOrder};
+ghost use Rattle.promises.specs.MakeUp.{MadeUpAll};
 ghost use Rattle.replies.specs.Replies.{outcomeCode, outcomeWords, answerCode, answerWords, madeUpCode, madeUpWords, partsAfter};
 ghost use Rattle.replies.specs.Records.{recordRoom, recordsAfter};
 
@@ -36,7 +33,7 @@ pub extern "C" fn zuzgravel_figures(
     let mut n: usize = 0;
     let mut words = [0u32; 256];
     let mut sets = [0u64; ECB_WORDS];
-    let outcome = call_work::figures(
+    let outcome = works::figures(
         board,
         records.len() / RECORD_WORDS,
         &mut n,
@@ -84,30 +81,16 @@ pub extern "C" fn zuzgravel_analyse(
     records: &mut [u32],
     answer: &mut [u64; 2],
 ) -> u32
-    ensures code { λ r. ⌜ r ≡ answerCode
-        (analyseAnswer (now (board .entry)) (length (now (times .entry))) (length (now (scratch .entry))) (recordRoom (now (records .entry)))) ⌝ }
-    ensures answer { λ _. ⌜ now (answer .exit) ≡ answerWords
-        (analyseAnswer (now (board .entry)) (length (now (times .entry))) (length (now (scratch .entry))) (recordRoom (now (records .entry)))) ⌝ }
-    ensures times { λ _. ⌜ now (times .exit) ≡ timesAfter (now (board .entry))
-        (analyseAnswer (now (board .entry)) (length (now (times .entry))) (length (now (scratch .entry))) (recordRoom (now (records .entry))))
-        (now (times .entry)) ⌝ }
+    ensures reply { λ c. ⌜ ((r : Answer) × (c ≡ answerCode r) × (now (answer .exit) ≡ answerWords r)
+        × Analysed (now (board .entry)) (now (times .entry)) (now (scratch .entry)) (recordRoom (now (records .entry))) r (now (times .exit)) (now (scratch .exit))) ⌝ }
     ensures records { λ _. ⌜ now (records .exit) ≡ recordsAfter (now (board .entry))
-        (analyseRefusal (now (board .entry)) (length (now (times .entry))) (length (now (scratch .entry))) (recordRoom (now (records .entry))))
-        (now (records .entry)) ⌝ }
-    ensures scratch { λ _. ⌜ ScratchAfter
-        (analyseRefusal (now (board .entry)) (length (now (times .entry))) (length (now (scratch .entry))) (recordRoom (now (records .entry))))
-        (now (scratch .entry)) (now (scratch .exit)) ⌝ }
-    ensures demand3 { λ _. ⌜ (analyseRefusal
-        (now (board .entry)) (length (now (times .entry))) (length (now (scratch .entry))) (recordRoom (now (records .entry))) ≡ Passed
-        → Demand3 (system (now (board .entry))) (passLimit (now (board .entry)))
-        (analyseAnswer (now (board .entry)) (length (now (times .entry))) (length (now (scratch .entry))) (recordRoom (now (records .entry))))
-        (now (times .exit))) ⌝ }
+        (analyseRefusal (now (board .entry)) (length (now (times .entry))) (length (now (scratch .entry))) (recordRoom (now (records .entry)))) (now (records .entry)) ⌝ }
 {
     let mut n: usize = 0;
     let mut words = [0u32; 256];
     let mut sets = [0u64; ECB_WORDS];
     let room = records.len() / RECORD_WORDS;
-    let found = call_work::analyse(board, times, scratch, room, &mut n, &mut words, &mut sets);
+    let found = works::analyse(board, times, scratch, room, &mut n, &mut words, &mut sets);
     fill_words(board, n, &words, &sets, records);
     of_answer(found, answer)
 }
@@ -122,35 +105,16 @@ pub extern "C" fn zuzgravel_analyse_in_order<'a>(
     order: &'a [u32],
     answer: &mut [u64; 2],
 ) -> u32
-    ensures code { λ r. ⌜ r ≡ answerCode (inOrderAnswer (now (board .entry))
-        (length (now (times .entry))) (length (now (scratch .entry))) (recordRoom (now (records .entry))) (now (order .entry))) ⌝ }
-    ensures answer { λ _. ⌜ now (answer .exit) ≡ answerWords (inOrderAnswer (now (board .entry))
-        (length (now (times .entry))) (length (now (scratch .entry))) (recordRoom (now (records .entry))) (now (order .entry))) ⌝ }
-    ensures times { λ _. ⌜ now (times .exit) ≡ timesAfter (now (board .entry)) (inOrderAnswer (now (board .entry))
-        (length (now (times .entry))) (length (now (scratch .entry))) (recordRoom (now (records .entry))) (now (order .entry))) (now (times .entry)) ⌝ }
-    ensures records { λ _. ⌜ now (records .exit) ≡ recordsAfter (now (board .entry)) (inOrderRefusal (now (board .entry))
-        (length (now (times .entry))) (length (now (scratch .entry))) (recordRoom (now (records .entry))) (now (order .entry))) (now (records .entry)) ⌝ }
-    ensures scratch { λ _. ⌜ ScratchAfter (inOrderRefusal (now (board .entry))
-        (length (now (times .entry))) (length (now (scratch .entry))) (recordRoom (now (records .entry))) (now (order .entry)))
-        (now (scratch .entry)) (now (scratch .exit)) ⌝ }
-    ensures demand3 { λ _. ⌜ (inOrderRefusal (now (board .entry))
-        (length (now (times .entry))) (length (now (scratch .entry))) (recordRoom (now (records .entry))) (now (order .entry)) ≡ Passed
-        → Demand3By (system (now (board .entry))) (inOrder (system (now (board .entry))) (now (order .entry))) (passLimit (now (board .entry)))
-        (inOrderAnswer (now (board .entry))
-        (length (now (times .entry))) (length (now (scratch .entry))) (recordRoom (now (records .entry))) (now (order .entry)))
-        (now (times .exit))) ⌝ }
-    ensures like { λ _. ⌜ (inOrderRefusal (now (board .entry))
-        (length (now (times .entry))) (length (now (scratch .entry))) (recordRoom (now (records .entry))) (now (order .entry)) ≡ Passed
-        → LikeAnalyse (now (board .entry)) (length (now (times .entry))) (length (now (scratch .entry))) (recordRoom (now (records .entry)))
-        (inOrder (system (now (board .entry))) (now (order .entry)))
-        (inOrderAnswer (now (board .entry))
-        (length (now (times .entry))) (length (now (scratch .entry))) (recordRoom (now (records .entry))) (now (order .entry)))) ⌝ }
+    ensures reply { λ c. ⌜ ((r : Answer) × (c ≡ answerCode r) × (now (answer .exit) ≡ answerWords r)
+        × AnalysedInOrder (now (board .entry)) (now (times .entry)) (now (scratch .entry)) (recordRoom (now (records .entry))) (now (order .entry)) r (now (times .exit)) (now (scratch .exit))) ⌝ }
+    ensures records { λ _. ⌜ now (records .exit) ≡ recordsAfter (now (board .entry))
+        (inOrderRefusal (now (board .entry)) (length (now (times .entry))) (length (now (scratch .entry))) (recordRoom (now (records .entry))) (now (order .entry))) (now (records .entry)) ⌝ }
 {
     let mut n: usize = 0;
     let mut words = [0u32; 256];
     let mut sets = [0u64; ECB_WORDS];
     let room = records.len() / RECORD_WORDS;
-    let found = order_work::analyse_in_order(
+    let found = works::analyse_in_order(
         board,
         times,
         scratch,
@@ -176,32 +140,16 @@ pub extern "C" fn zuzgravel_make_up(
     parts: &mut [u64; 6],
     answer: &mut [u64; 2],
 ) -> u32
-    ensures code { λ r. ⌜ r ≡ madeUpCode (makeUpAnswer (now (board .entry))
-        (length (now (times .entry))) (length (now (scratch .entry))) (recordRoom (now (records .entry))) task) ⌝ }
-    ensures answer { λ _. ⌜ now (answer .exit) ≡ madeUpWords (makeUpAnswer (now (board .entry))
-        (length (now (times .entry))) (length (now (scratch .entry))) (recordRoom (now (records .entry))) task) ⌝ }
-    ensures parts { λ _. ⌜ now (parts .exit) ≡ partsAfter (makeUpAnswer (now (board .entry))
-        (length (now (times .entry))) (length (now (scratch .entry))) (recordRoom (now (records .entry))) task) (now (parts .entry)) ⌝ }
-    ensures times { λ _. ⌜ now (times .exit) ≡ timesAfter (now (board .entry)) (answerBy (makeUpRefusal (now (board .entry))
-        (length (now (times .entry))) (length (now (scratch .entry))) (recordRoom (now (records .entry))) task) (now (board .entry)))
-        (now (times .entry)) ⌝ }
-    ensures records { λ _. ⌜ now (records .exit) ≡ recordsAfter (now (board .entry)) (makeUpRefusal (now (board .entry))
-        (length (now (times .entry))) (length (now (scratch .entry))) (recordRoom (now (records .entry))) task) (now (records .entry)) ⌝ }
-    ensures scratch { λ _. ⌜ ScratchAfter (makeUpRefusal (now (board .entry))
-        (length (now (times .entry))) (length (now (scratch .entry))) (recordRoom (now (records .entry))) task)
-        (now (scratch .entry)) (now (scratch .exit)) ⌝ }
-    ensures made { λ _. ⌜ (makeUpRefusal (now (board .entry))
-        (length (now (times .entry))) (length (now (scratch .entry))) (recordRoom (now (records .entry))) task ≡ Passed
-        → MadeUpOf (now (board .entry)) (length (now (times .entry))) (length (now (scratch .entry))) (recordRoom (now (records .entry)))
-        (task - 1) (makeUpAnswer (now (board .entry))
-        (length (now (times .entry))) (length (now (scratch .entry))) (recordRoom (now (records .entry))) task)
-        (now (times .exit))) ⌝ }
+    ensures reply { λ c. ⌜ ((r : MadeUp) × (c ≡ madeUpCode r) × (now (answer .exit) ≡ madeUpWords r) × (now (parts .exit) ≡ partsAfter r (now (parts .entry)))
+        × MadeUpAll (now (board .entry)) (now (times .entry)) (now (scratch .entry)) (recordRoom (now (records .entry))) task r (now (times .exit)) (now (scratch .exit))) ⌝ }
+    ensures records { λ _. ⌜ now (records .exit) ≡ recordsAfter (now (board .entry))
+        (makeUpRefusal (now (board .entry)) (length (now (times .entry))) (length (now (scratch .entry))) (recordRoom (now (records .entry))) task) (now (records .entry)) ⌝ }
 {
     let mut n: usize = 0;
     let mut words = [0u32; 256];
     let mut sets = [0u64; ECB_WORDS];
     let room = records.len() / RECORD_WORDS;
-    let made = make_up_work::make_up(
+    let made = works::make_up(
         board,
         times,
         scratch,

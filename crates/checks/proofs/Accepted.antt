@@ -19,7 +19,7 @@ use Rattle.refusals.specs.declared.Verdict.the-variants.{Passed}
 use Rattle.refusals.proofs.Verdicts.{orElse-passed, refuseUnless-passed}
 use Rattle.refusals.proofs.Sound.{sound, within-true, refuseFirst-passed}
 use Rattle.sums.specs.Sums.{bound}
-use Rattle.checks.specs.Refusals.{taskRow, timesRow, scratchRow, tableRow, timeOk, timeRow, namedBefore, numberOk, orderRow, figuresRefusal, overheadRefusal, weighRefusal, analyseRefusal, inOrderRefusal, makeUpRefusal}
+use Rattle.checks.specs.Refusals.{taskRow, timesRow, scratchRow, tableRow, bufferRows, timeOk, timeRow, namedBefore, numberOk, orderRow, figuresRefusal, overheadRefusal, weighRefusal, analyseRefusal, inOrderRefusal, makeUpRefusal}
 use Rattle.checks.specs.Accepted.{FiguresTaken, OverheadTaken, WeighTaken, AnalyseTaken, InOrderTaken, MakeUpTaken}
 use Rattle.checks.proofs.Checks.{orElse-assoc}
 
@@ -107,7 +107,7 @@ module _ (b : List ℕ) where
   pub make-up-passed : (times scratch room i : ℕ) → makeUpRefusal b times scratch room i ≡ Passed → (analyseRefusal b times scratch room ≡ Passed) × Between 1 n i
   unfolding makeUpRefusal analyseRefusal
   make-up-passed times scratch room i e =
-      let buffers = timesRow n times orElse scratchRow n scratch orElse tableRow n room in
+      let buffers = bufferRows n times scratch room in
       let rows = orElse-passed (refusalOf b) (taskRow n i orElse buffers) e in
       let rest = orElse-passed (taskRow n i) buffers (rows .1) in
       (ap (λ (v : Verdict). v orElse buffers) (rows .0) ∙ rest .1, row10 i (rest .0))

@@ -6,7 +6,7 @@ use order::order_row;
 use refusals::Verdict;
 use refusals::or_else;
 use rows::board_rows;
-use rows::scratch_row;
+use rows::buffer_rows;
 use rows::table_row;
 use rows::task_row;
 use rows::time_row;
@@ -55,13 +55,7 @@ pub fn check_analyse(board: &[u32], times: usize, scratch: usize, room: usize) -
     let c = board_rows(board);
     let n = c.tasks;
     let v = c.verdict;
-    or_else(
-        v,
-        or_else(
-            times_row(n, times),
-            or_else(scratch_row(n, scratch), table_row(n, room)),
-        ),
-    )
+    or_else(v, buffer_rows(n, times, scratch, room))
 }
 
 // What `analyse_in_order` checks, its buffers being of these lengths.
@@ -77,15 +71,9 @@ pub fn check_in_order<'a>(
     let c = board_rows(board);
     let n = c.tasks;
     let v = c.verdict;
-    let table = table_row(n, room);
+    let buffers = buffer_rows(n, times, scratch, room);
     let listed = order_row(n, order);
-    or_else(
-        v,
-        or_else(
-            times_row(n, times),
-            or_else(scratch_row(n, scratch), or_else(table, listed)),
-        ),
-    )
+    or_else(v, or_else(buffers, listed))
 }
 
 // What `make_up` checks, its buffers being of these lengths.
@@ -102,12 +90,6 @@ pub fn check_make_up(
     let n = c.tasks;
     let v = c.verdict;
     let number = task_row(n, task);
-    let table = table_row(n, room);
-    or_else(
-        v,
-        or_else(
-            number,
-            or_else(times_row(n, times), or_else(scratch_row(n, scratch), table)),
-        ),
-    )
+    let buffers = buffer_rows(n, times, scratch, room);
+    or_else(v, or_else(number, buffers))
 }

@@ -2,13 +2,14 @@
 use folds::index;
 use refusals::Verdict;
 use refusals::check_that;
+use refusals::or_else;
 ghost use mathlib.Core.Path.{_≡_};
 ghost use Prim.Native.Nat.{_<_, _≤_};
 ghost use lib.ListN.{length};
 ghost use Rattle.board.specs.Layout.{tasks, mostTasks};
 ghost use Rattle.refusals.specs.Refusals.{firstBad, refusalOf};
 ghost use Rattle.refusals.specs.declared.Verdict.the-variants.{Passed};
-ghost use Rattle.checks.specs.Refusals.{taskRow, timesRow, scratchRow, tableRow, timeOk, timeRow};
+ghost use Rattle.checks.specs.Refusals.{taskRow, timesRow, scratchRow, tableRow, bufferRows, timeOk, timeRow};
 ghost use Rattle.checks.specs.Accepted.{Judged};
 
 // What a board's own rows say, and its tasks: 0 where one of them refuses.
@@ -60,6 +61,17 @@ pub fn table_row(n: usize, table: usize) -> Verdict
     ensures { λ r. ⌜ r ≡ tableRow n table ⌝ }
 {
     check_that(13, n <= table, table)
+}
+
+// Rows 11 to 13, of Analyse's buffers.
+pub fn buffer_rows(n: usize, times: usize, scratch: usize, table: usize) -> Verdict
+    requires { ⌜ n ≤ mostTasks ⌝ }
+    ensures { λ r. ⌜ r ≡ bufferRows n times scratch table ⌝ }
+{
+    or_else(
+        times_row(n, times),
+        or_else(scratch_row(n, scratch), table_row(n, table)),
+    )
 }
 
 // Row 14, of n times; where there are not so many, row 11 refuses.

@@ -20,7 +20,7 @@ use Rattle.answers.specs.declared.MadeUp.the-variants.{Parts, Spent, Refused}
 use Rattle.answers.specs.Refusals.{makeUpRefusal}
 use Rattle.answers.specs.Answers.{system}
 use Rattle.answers.specs.MakeUp.{madeUpBy, makeUpAnswer}
-use Rattle.calls.specs.MakeUp.{MadeUpOf}
+use Rattle.promises.specs.MakeUp.{MadeUpOf}
 use Rattle.input.specs.Input.{wordsIn, inputRefusal}
 use Rattle.input.specs.Argument.{numberIn}
 use Rattle.answer_page.specs.AnswerPage.{badLine}

@@ -1,21 +1,40 @@
-// The six parts of a task's sum at the times that a prepared scratch begins with, and the largest of them.
+// The last step of `make_up`: the six parts of a task's sum at the settled times, and the largest of them.
+use answers::Answer;
 use answers::MadeUp;
+use folds::index;
 use interference::SumParts;
 use interference::six;
 ghost use mathlib.Core.Path.{_≡_};
-ghost use Prim.Native.Nat.{_<_};
-ghost use lib.ListN.{take};
+ghost use Prim.Native.Nat.{_-_, _<_};
+ghost use Rattle.board.specs.Layout.{tasks};
+ghost use Rattle.board.specs.Sound.{Between};
 ghost use Rattle.sums.specs.SixParts.{reason};
-ghost use Rattle.sums.specs.Inputs.{CappedTimes};
+ghost use Rattle.passes.specs.Passes.{settled};
 ghost use Rattle.interference.specs.Parts.{listed};
-ghost use Rattle.scratch.specs.Scratch.{Prepared};
+ghost use Rattle.answers.specs.Answers.{system};
 ghost use Rattle.answers.specs.MakeUp.{madeUpAt};
+ghost use Rattle.settle.specs.Settled.{AtSettled, WhereSettled};
+ghost use Rattle.reasons.specs.MadeUp.{madeUpOf};
 
-// The parts of task i and the reason, at these times.
-pub fn parts_at(board: &[u32], n: usize, scratch: &[u32], i: usize) -> MadeUp
-    requires { ⌜ (Prepared (now board) n (now scratch)) × (CappedTimes (now board) (take n (now scratch))) × (i < n) ⌝ }
-    ensures { λ r. ⌜ r ≡ madeUpAt (now (board .entry)) (take n (now (scratch .entry))) i ⌝ }
+// What `make_up` answers of a task's number, by the answer that its board's passes gave.
+pub fn made_up(board: &[u32], answer: Answer, scratch: &[u32], task: usize) -> MadeUp
+    requires { ⌜ WhereSettled answer (AtSettled (now board) (now scratch) × Between 1 (tasks (now board)) task) ⌝ }
+    ensures { λ r. ⌜ r ≡ madeUpOf answer (now (board .entry)) (task - 1) ⌝ }
 {
+    match answer {
+        Answer::Times(_) => parts_at(board, scratch, task - 1),
+        Answer::Late(_, _) => parts_at(board, scratch, task - 1),
+        Answer::Spent => MadeUp::Spent,
+        Answer::Refused(number, place) => MadeUp::Refused(number, place),
+    }
+}
+
+// The parts of task i and the reason, at the settled times.
+fn parts_at(board: &[u32], scratch: &[u32], i: usize) -> MadeUp
+    requires { ⌜ (AtSettled (now board) (now scratch)) × (i < tasks (now board)) ⌝ }
+    ensures { λ r. ⌜ r ≡ madeUpAt (now (board .entry)) (settled (system (now (board .entry)))) i ⌝ }
+{
+    let n = index(board::fields::tasks(board));
     let parts = scratch::parts_of(board, n, scratch, &scratch[..n], i);
     let number = reason_of(parts);
     MadeUp::Parts(parts, number)

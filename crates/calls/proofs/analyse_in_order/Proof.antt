@@ -1,9 +1,9 @@
--- `calls::analyse_in_order` meets its contract: it is a call that fills the figures table, over `order_work::analyse_in_order` (`Walk.antt`). Demand 3 and
--- what it is beside `analyse` follow from the answer and the times.
+-- `calls::analyse_in_order` meets its contract: it is a call that fills the figures table, over `works::analyse_in_order` (`Walk.antt`).
 -- Assumes nothing.
 use Prim.Native.Nat.{ℕ}
 use mathlib.Core.List.{List, [], _∷_}
 use lib.ListN.{length}
+use base.Logic.{emp}
 use contract.Running.{givenOf, tables, tablesOf}
 use mir.Syntax.{w32}
 use denote.Enum.Laws as EL
@@ -15,20 +15,19 @@ use Rattle.table.proofs.fill.Symbol.{name as #table·fill}
 use Rattle.table.proofs.fill.Met as fill-thm
 use Rattle.refusals.specs.declared.Verdict.{Verdict}
 use Rattle.answers.specs.Refusals.{inOrderRefusal}
-use Rattle.order_work.specs.InOrder.{AnalysedInOrder}
+use Rattle.promises.specs.InOrder.{AnalysedInOrder}
 use Rattle.answers.specs.declared.Answer.{Answer}
 use Rattle.answers.proofs.Answer as S
 use Rattle.answers.proofs.Answer.Laws as S′
-use Rattle.order_work.proofs.analyse_in_order.Symbol as work-def
-use Rattle.order_work.proofs.analyse_in_order.Symbol.{name as #order-work·analyse-in-order}
-use Rattle.order_work.proofs.analyse_in_order.Met as work-thm
-use Rattle.calls.proofs.InOrder.{in-order-demand3, in-order-like}
+use Rattle.works.proofs.analyse_in_order.Symbol as work-def
+use Rattle.works.proofs.analyse_in_order.Symbol.{name as #works·analyse-in-order}
+use Rattle.works.proofs.analyse_in_order.Met as work-thm
 use Rattle.calls.proofs.Steps.{holds, both}
 use Rattle.calls.proofs.Extras.{Extra, Values, words}
 use Rattle.calls.proofs.Buffers.{Lists}
 use Rattle.calls.proofs.Buffers.{both as times-and-scratch}
 use Rattle.calls.proofs.Filling.{Fills}
-use Rattle.calls.proofs.Walk.{Works, meets}
+use Rattle.calls.proofs.Walk.{LongWords, Nothing, long-words, opens-nothing, Works, meets}
 use Rattle.calls.proofs.analyse_in_order.Key.{name as #calls·analyse-in-order}
 use Rattle.calls.proofs.analyse_in_order as call
 use Rattle.calls.proofs.analyse_in_order.Statement as stated
@@ -49,11 +48,10 @@ unfolding code.routine tablesOf
 analyse-in-order-spec 𝓤 H 𝓜 𝓖 𝓡 =
     entered 𝓤 H (tripleOf 𝓤 H (𝓖 .A) call.signature (call.spec 𝓤 H (𝓖 .A) (𝓜 .mem) (𝓡 .run)))
     (tables 𝓤 H 𝓜 𝓡 code.env .C) (tables 𝓤 H 𝓜 𝓡 code.env .Λ) #calls·analyse-in-order code.function (code.unfolded 𝓤 H 𝓜 𝓡)
-    (meets S.the-row times-and-scratch xs refuse Done S′.mir (λ r u is. EL.lawful S.the-type S′.the-laws 𝓤 H (𝓖 .A) (givenOf 𝓤 H 𝓜 𝓖) tt .typed r _ is .0) #order-work·analyse-in-order
-    𝓤 H (𝓖 .A) (givenOf 𝓤 H 𝓜 𝓖) (𝓜 .mem) (𝓡 .run) (λ κs a. call.clauses 𝓤 H (𝓖 .A) (𝓜 .mem) (𝓡 .run) κs a .ensures tt)
-    (λ κs a r new fs done table. both 𝓤 (holds 𝓤 (done .0)) (both 𝓤 (holds 𝓤 (done .1 .0)) (both 𝓤 (holds 𝓤 table) (both 𝓤 (holds 𝓤 (done .1 .1))
-    (both 𝓤 (holds 𝓤 (λ passed. in-order-demand3 (now (a .0)) (now (a .1 .0)) _ _ _ passed r (done .0) (new .0) (done .1 .0)))
-    (holds 𝓤 (λ passed. in-order-like (now (a .0)) (now (a .1 .0)) _ _ _ passed r (done .0))))))))
+    (meets S.the-row times-and-scratch xs refuse Done (LongWords times-and-scratch xs) S′.mir (λ r u is. EL.lawful S.the-type S′.the-laws 𝓤 H (𝓖 .A) (givenOf 𝓤 H 𝓜 𝓖) tt .typed r _ is .0) #works·analyse-in-order
+    𝓤 H (𝓖 .A) (givenOf 𝓤 H 𝓜 𝓖) (𝓜 .mem) (𝓡 .run) (Nothing times-and-scratch xs) (long-words times-and-scratch xs) (λ _ _. emp 𝓤) (λ _ _. opens-nothing 𝓤)
+    (λ κs a. call.clauses 𝓤 H (𝓖 .A) (𝓜 .mem) (𝓡 .run) κs a .ensures tt)
+    (λ κs a r new fs done table. both 𝓤 (holds 𝓤 done) (holds 𝓤 table))
     (tablesOf 𝓤 H 𝓜 (tables 𝓤 H 𝓜 𝓡 code.env))
-    (cited 𝓤 H (Works S.the-row times-and-scratch xs refuse Done 𝓤 H (𝓖 .A)) 𝓜 𝓡 code.env #order-work·analyse-in-order work-def.routine code.calls-order-work·analyse-in-order (work-thm.met 𝓤 H 𝓜 𝓖 𝓡))
+    (cited 𝓤 H (Works S.the-row times-and-scratch xs refuse Done (LongWords times-and-scratch xs) 𝓤 H (𝓖 .A)) 𝓜 𝓡 code.env #works·analyse-in-order work-def.routine code.calls-works·analyse-in-order (work-thm.met 𝓤 H 𝓜 𝓖 𝓡))
     (cited 𝓤 H (Fills 𝓤 H (𝓖 .A) (𝓜 .mem) (𝓡 .run)) 𝓜 𝓡 code.env #table·fill fill-def.routine code.calls-table·fill (fill-thm.met 𝓤 H 𝓜 𝓖 𝓡)))

@@ -1,12 +1,11 @@
--- `calls::make_up` meets its contract: it is a call that fills the figures table, over `make_up_work::make_up` (`Walk.antt`). What is promised
--- of the six numbers follows from the answer and the times.
+-- `calls::make_up` meets its contract: it is a call that fills the figures table, over `works::make_up` (`Walk.antt`).
 -- Assumes nothing.
 use Prim.Native.Nat.{ℕ}
 use mathlib.Core.List.{List, [], _∷_}
 use lib.ListN.{length}
+use base.Logic.{emp}
 use contract.Running.{givenOf, tables, tablesOf}
 use denote.Enum.Laws as EL
-use denote.Ref.{now}
 use denote.Triple.Spec.{tripleOf}
 use denote.Triple.Table.{entered, cited}
 use Rattle.table.proofs.fill.Symbol as fill-def
@@ -14,20 +13,19 @@ use Rattle.table.proofs.fill.Symbol.{name as #table·fill}
 use Rattle.table.proofs.fill.Met as fill-thm
 use Rattle.refusals.specs.declared.Verdict.{Verdict}
 use Rattle.answers.specs.Refusals.{makeUpRefusal}
-use Rattle.make_up_work.specs.MadeUp.{MadeUpAll}
+use Rattle.promises.specs.MakeUp.{MadeUpAll}
 use Rattle.answers.specs.declared.MadeUp.{MadeUp}
 use Rattle.answers.proofs.MadeUp as S
 use Rattle.answers.proofs.MadeUp.Laws as S′
-use Rattle.make_up_work.proofs.make_up.Symbol as work-def
-use Rattle.make_up_work.proofs.make_up.Symbol.{name as #make-up-work·make-up}
-use Rattle.make_up_work.proofs.make_up.Met as work-thm
-use Rattle.calls.proofs.MakeUp.{made-up-of}
+use Rattle.works.proofs.make_up.Symbol as work-def
+use Rattle.works.proofs.make_up.Symbol.{name as #works·make-up}
+use Rattle.works.proofs.make_up.Met as work-thm
 use Rattle.calls.proofs.Steps.{holds, both}
 use Rattle.calls.proofs.Extras.{Extra, Values, number}
 use Rattle.calls.proofs.Buffers.{Lists}
 use Rattle.calls.proofs.Buffers.{both as times-and-scratch}
 use Rattle.calls.proofs.Filling.{Fills}
-use Rattle.calls.proofs.Walk.{Works, meets}
+use Rattle.calls.proofs.Walk.{LongWords, Nothing, long-words, opens-nothing, Works, meets}
 use Rattle.calls.proofs.make_up.Key.{name as #calls·make-up}
 use Rattle.calls.proofs.make_up as call
 use Rattle.calls.proofs.make_up.Statement as stated
@@ -48,10 +46,10 @@ unfolding code.routine tablesOf
 make-up-spec 𝓤 H 𝓜 𝓖 𝓡 =
     entered 𝓤 H (tripleOf 𝓤 H (𝓖 .A) call.signature (call.spec 𝓤 H (𝓖 .A) (𝓜 .mem) (𝓡 .run)))
     (tables 𝓤 H 𝓜 𝓡 code.env .C) (tables 𝓤 H 𝓜 𝓡 code.env .Λ) #calls·make-up code.function (code.unfolded 𝓤 H 𝓜 𝓡)
-    (meets S.the-row times-and-scratch xs refuse Done S′.mir (λ r u is. EL.lawful S.the-type S′.the-laws 𝓤 H (𝓖 .A) (givenOf 𝓤 H 𝓜 𝓖) tt .typed r _ is .0) #make-up-work·make-up
-    𝓤 H (𝓖 .A) (givenOf 𝓤 H 𝓜 𝓖) (𝓜 .mem) (𝓡 .run) (λ κs a. call.clauses 𝓤 H (𝓖 .A) (𝓜 .mem) (𝓡 .run) κs a .ensures tt)
-    (λ κs a r new fs done table. both 𝓤 (holds 𝓤 (done .0)) (both 𝓤 (holds 𝓤 (done .1 .0)) (both 𝓤 (holds 𝓤 table) (both 𝓤 (holds 𝓤 (done .1 .1))
-    (holds 𝓤 (λ passed. made-up-of (now (a .0)) (now (a .1 .0)) _ _ _ passed r (done .0) (new .0) (done .1 .0)))))))
+    (meets S.the-row times-and-scratch xs refuse Done (LongWords times-and-scratch xs) S′.mir (λ r u is. EL.lawful S.the-type S′.the-laws 𝓤 H (𝓖 .A) (givenOf 𝓤 H 𝓜 𝓖) tt .typed r _ is .0) #works·make-up
+    𝓤 H (𝓖 .A) (givenOf 𝓤 H 𝓜 𝓖) (𝓜 .mem) (𝓡 .run) (Nothing times-and-scratch xs) (long-words times-and-scratch xs) (λ _ _. emp 𝓤) (λ _ _. opens-nothing 𝓤)
+    (λ κs a. call.clauses 𝓤 H (𝓖 .A) (𝓜 .mem) (𝓡 .run) κs a .ensures tt)
+    (λ κs a r new fs done table. both 𝓤 (holds 𝓤 done) (holds 𝓤 table))
     (tablesOf 𝓤 H 𝓜 (tables 𝓤 H 𝓜 𝓡 code.env))
-    (cited 𝓤 H (Works S.the-row times-and-scratch xs refuse Done 𝓤 H (𝓖 .A)) 𝓜 𝓡 code.env #make-up-work·make-up work-def.routine code.calls-make-up-work·make-up (work-thm.met 𝓤 H 𝓜 𝓖 𝓡))
+    (cited 𝓤 H (Works S.the-row times-and-scratch xs refuse Done (LongWords times-and-scratch xs) 𝓤 H (𝓖 .A)) 𝓜 𝓡 code.env #works·make-up work-def.routine code.calls-works·make-up (work-thm.met 𝓤 H 𝓜 𝓖 𝓡))
     (cited 𝓤 H (Fills 𝓤 H (𝓖 .A) (𝓜 .mem) (𝓡 .run)) 𝓜 𝓡 code.env #table·fill fill-def.routine code.calls-table·fill (fill-thm.met 𝓤 H 𝓜 𝓖 𝓡)))

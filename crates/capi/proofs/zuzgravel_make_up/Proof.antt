@@ -1,11 +1,7 @@
--- `capi::zuzgravel_make_up` meets its contract: the reply is that of the answer, the records are those that are counted, and the times and the scratch are as
--- `make_up` leaves them.
+-- `capi::zuzgravel_make_up` meets its contract: the reply is that of the answer, and the records are those that are counted.
 -- Assumes nothing.
-use mathlib.Core.Path.{refl}
 use native.Mathlib.Omega.{arith}
 use borrow.Author.Needs.{needs}
-use Rattle.calls.proofs.MakeUp.{made-up-of}
-use Rattle.replies.proofs.Replies.{parts-as}
 use Rattle.replies.proofs.Records.{filled-records}
 use Rattle.capi.proofs.zuzgravel_make_up.Statement.{statement}
 use Rattle.capi.proofs.zuzgravel_make_up.Tie as tie
@@ -14,12 +10,9 @@ returns : tie.Need-returns
 returns c =
     let filled = c .before .before .before .before .before in
     let d = filled .before .before .before .before .before .before .before .before .before in
-    let a = d .before .before .before .before .before .before .before .before .before .before .args in
-    let counts = d .make-up .ensures .0 in
-    let made = d .make-up .ensures .1 in
-    let reply = parts-as _ _ _ _ (made .0) (c .of-made-up .ensures) in
-    let records = filled-records _ _ _ (counts .0) (filled .fill-words .ensures) in
-    (reply .0, (reply .1 .0, (reply .1 .1, (made .1 .0, (records, (made .1 .1, λ passed. made-up-of (a .board .now) (a .times .now) _ _ (a .task) passed _ refl _ (made .1 .0)))))))
+    let done = d .make-up .ensures in
+    let told = c .of-made-up .ensures in
+    ((d .make-up .result, told .0, told .1 .0, told .1 .1, done .1), filled-records _ _ _ (done .0 .0) (filled .fill-words .ensures))
 
 pub zuzgravel-make-up-spec : {M : Type 1} → statement M
 zuzgravel-make-up-spec =

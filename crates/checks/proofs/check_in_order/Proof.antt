@@ -3,7 +3,7 @@
 use Prim.Native.Nat.{ℕ}
 use borrow.Author.Needs.{needs}
 use Rattle.refusals.specs.Refusals.{_orElse_}
-use Rattle.checks.specs.Refusals.{timesRow, scratchRow, tableRow, orderRow, inOrderRefusal}
+use Rattle.checks.specs.Refusals.{bufferRows, orderRow, inOrderRefusal}
 use Rattle.checks.proofs.Checks.{row-then, board-then}
 use Rattle.checks.proofs.check_in_order.Statement.{statement}
 use Rattle.checks.proofs.check_in_order.Tie as tie
@@ -14,24 +14,13 @@ check-in-order-spec =
     tie.close
     (tie.spec
     (λ c κs. search needs)
-    (λ c κs. search needs)
+    (λ c κs. c .board-rows .ensures .few)
     (λ c κs. c .before .board-rows .ensures .few)
-    (λ c κs. search needs)
-    (λ c κs. c .before .before .before .board-rows .ensures .few)
-    (λ c κs. search needs)
-    (λ c κs. search needs)
     (λ c κs. search needs)
     (λ c κs. search needs)
     (λ c.
-    let scratch = c .before .before .before .before in
-    let listed = scratch .before .before in
+    let listed = c .before .before in
     let judged = listed .before .before in
     let a = judged .before .before .before .args in
-    board-then (λ (n : ℕ). timesRow n (a .times) orElse scratchRow n (a .scratch) orElse tableRow n (a .room) orElse orderRow n (a .order .now))
-    (judged .board-rows .ensures)
-    (c .or-else4 .ensures)
-    (λ _.
-    row-then _ (c .before .or-else3 .ensures) (scratch .before .times-row .ensures)
-    (λ _.
-    row-then _ (c .before .before .or-else2 .ensures) (scratch .scratch-row .ensures)
-    (λ _. row-then _ (c .before .before .before .or-else .ensures) (listed .before .table-row .ensures) (λ _. listed .order-row .ensures))))))
+    board-then (λ (n : ℕ). bufferRows n (a .times) (a .scratch) (a .room) orElse orderRow n (a .order .now)) (judged .board-rows .ensures) (c .or-else2 .ensures)
+    (λ _. row-then _ (c .before .or-else .ensures) (listed .before .buffer-rows .ensures) (λ _. listed .order-row .ensures))))

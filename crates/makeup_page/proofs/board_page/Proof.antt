@@ -13,12 +13,12 @@ board-page-spec =
     (tie.spec (λ c κs. search needs) (λ c. search needs) (λ c. search needs) (λ c κs. search needs)
     (λ c κs.
     let call = c .before .before .before .make-up-alone in
-    (make-up-printable _ _ _ _ _ (call .ensures .0) (call .ensures .1 .1 .1), omega arith))
+    (make-up-printable _ _ _ _ _ (call .ensures .answer) (call .ensures .parts), omega arith))
     (λ c. search needs)
     (λ c.
     let put = c .before .before in
     let call = put .before .before .before .before in
     let number = call .before .before .before .number-in in (
-      put-same (boardMadeUp-is _ (number .ensures) (call .make-up-alone .ensures .0)) (put .made-up-page .ensures),
+      put-same (boardMadeUp-is _ (number .ensures) (call .make-up-alone .ensures .answer)) (put .made-up-page .ensures),
       put-counts (put .made-up-page .ensures),
     )))

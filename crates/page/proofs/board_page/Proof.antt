@@ -13,9 +13,9 @@ board-page-spec =
     (tie.spec (λ c. search needs) (λ c. search needs) (λ c κs. search needs) (λ c. search needs)
     (λ c κs.
     let call = c .before .before .before .before .analyse-alone in
-    (analyse-printable _ _ _ _ _ (call .kept .1 .0) (call .ensures .0), omega arith))
+    (analyse-printable _ _ _ _ _ (call .kept .1 .0) (call .ensures .answer), omega arith))
     (λ c. search needs)
     (λ c.
     let put = c .before .before in
     let call = put .before .before .before .before .before .analyse-alone in
-    (put-same (boardPage-is _ _ _ (call .ensures .0) (call .ensures .1 .0)) (put .answer-page .ensures), put-counts (put .answer-page .ensures))))
+    (put-same (boardPage-is _ _ _ (call .ensures .answer) (call .ensures .given)) (put .answer-page .ensures), put-counts (put .answer-page .ensures))))

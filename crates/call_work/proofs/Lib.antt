@@ -1,2 +1,0 @@
--- Laws of the halves of a call.
-pub mod Begun

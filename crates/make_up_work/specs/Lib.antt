@@ -1,2 +1,0 @@
--- What `make_up` does but for its table.
-pub mod MadeUp

@@ -1,2 +1,0 @@
--- Laws of the times that passes in order leave.
-pub mod SameTimes

@@ -1,0 +1,2 @@
+-- Laws of what `make_up` answers.
+pub mod MadeUp

@@ -1,0 +1,17 @@
+-- For the code: what `make_up` answers of task i, an index, by the answer that its board's passes gave.
+-- Assumes nothing.
+use Prim.Native.Nat.{ℕ}
+use mathlib.Core.List.{List}
+use Rattle.passes.specs.Passes.{settled}
+use Rattle.answers.specs.declared.Answer.{Answer}
+use Rattle.answers.specs.declared.Answer.the-variants.{Times, Late, Spent, Refused}
+use Rattle.answers.specs.declared.MadeUp.{MadeUp}
+use Rattle.answers.specs.declared.MadeUp.the-variants.{Spent as MadeUp·Spent, Refused as MadeUp·Refused}
+use Rattle.answers.specs.Answers.{system}
+use Rattle.answers.specs.MakeUp.{madeUpAt}
+
+abbrev pub madeUpOf : Answer → List ℕ → ℕ → MadeUp
+madeUpOf (Times passes) b i = madeUpAt b (settled (system b)) i
+madeUpOf (Late task passes) b i = madeUpAt b (settled (system b)) i
+madeUpOf Spent b i = MadeUp·Spent
+madeUpOf (Refused number place) b i = MadeUp·Refused number place

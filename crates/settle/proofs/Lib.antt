@@ -1,0 +1,3 @@
+-- Laws of what a call has of its board once it is settled.
+pub mod Begun
+pub mod Settled

@@ -1,0 +1,2 @@
+-- What each call promises follows from what it has once it is settled.
+pub mod Promised
