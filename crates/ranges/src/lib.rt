@@ -108,7 +108,7 @@ fn task_ok(board: &[u32], i: usize) -> bool
     }
 }
 
-// Kind 0 executes, 1 reads and 2 writes.
+// Kind 0 executes, 1 reads and 2 writes. There is no branch on the kind: those of a board that is new to the machine cannot be foreseen.
 fn work_ok(board: &[u32], i: usize) -> bool
     requires { ⌜ i < length (now board) ⌝ }
     ensures { λ r. ⌜ r ≡ workOk (now (board .entry)) i ⌝ }
@@ -116,11 +116,9 @@ fn work_ok(board: &[u32], i: usize) -> bool
     let x = board[i];
     let kind = work::kind(x);
     let block = work::block(x);
-    match kind {
-        0 => block == 0,
-        1 | 2 => FIRST_DATA_BLOCK <= block,
-        _ => false,
-    }
+    let executes = (kind == 0) & (block == 0);
+    let moves = (kind != 0) & (kind <= 2) & (FIRST_DATA_BLOCK <= block);
+    executes | moves
 }
 
 // Whether word i of the board is in its range, as a word of that part.

@@ -2,6 +2,7 @@
 use folds::index;
 use ranges::Part;
 use ranges::word_ok;
+ghost use mathlib.Core.Bool.{true};
 ghost use mathlib.Core.Path.{_≡_};
 ghost use Prim.Native.Nat.{ℕ, _+_, _*_, _≤_, _<_};
 ghost use lib.ListN.{length};
@@ -23,6 +24,20 @@ pub(crate) fn first_bad(board: &[u32], part: Part, from: usize, end: usize) -> u
         i += 1;
     }
     i
+}
+
+// Whether all of these words are in their range. It looks at every one of them, so that the machine can take several at a time.
+pub(crate) fn all_ok(board: &[u32], part: Part, from: usize, end: usize) -> bool
+    requires { ⌜ (20 ≤ length (now board)) × (end ≤ length (now board)) ⌝ }
+    ensures { λ r. ⌜ (r ≡ true → end ≤ firstBad (wordOk part (now (board .entry))) from end) ⌝ }
+{
+    let mut ok = true;
+    let mut i = from;
+    while i < end {
+        ok = ok & word_ok(board, part, i);
+        i += 1;
+    }
+    ok
 }
 
 // The sum of count words, the first at from and each next one stride further on.

@@ -1,11 +1,18 @@
--- `ranges::work_ok` meets its contract: the arm of the kind says which case of `workOk` holds.
+-- `ranges::work_ok` meets its contract: its two tests, of which one holds at most, are the two cases of `workOk`.
 -- Assumes nothing.
-use native.Mathlib.Nat.{le-of-suc-le-suc}
+use mathlib.Core.Bool.{Bool, true, false, cond, not, _&&_, _||_}
+use mathlib.Core.Path.{_≡_, refl, _∙_}
+use lib.Dec.{eqb, leb}
 use borrow.Author.Needs.{needs}
-use borrow.Author.Tests.{eq-eqb, ne-eqb, le-leb, lt-leb}
+use Rattle.board.specs.Layout.{firstDataBlock}
 use Rattle.ranges.specs.Ranges.{workOk}
 use Rattle.ranges.proofs.work_ok.Statement.{statement}
 use Rattle.ranges.proofs.work_ok.Tie as tie
+
+either-is-cond : (x y z w : Bool) → ((x && y) || ((not x && z) && w)) ≡ cond x y (z && w)
+either-is-cond true true z w = refl
+either-is-cond true false z w = refl
+either-is-cond false y z w = refl
 
 pub work-ok-spec : {M : Type 1} → statement M
 unfolding workOk
@@ -16,7 +23,5 @@ work-ok-spec =
     (λ c. search needs)
     (λ c κs. search needs)
     (λ c κs. search needs)
-    (λ c. simp (c .before .block .ensures .0, ← c .before .before .kind .ensures, eq-eqb _ _ (c .match .keys1)))
-    (λ c. let at = c .before .before in
-    simp (at .block .ensures .0, ← at .before .kind .ensures, ne-eqb _ _ (c .before .match .rest .1), le-leb _ 2 (le-of-suc-le-suc (c .if1 .taken))))
-    (λ c. simp (← c .before .before .before .kind .ensures, ne-eqb _ _ (c .before .match .rest .1), lt-leb _ 2 (c .if1 .left))))
+    (λ c. either-is-cond (eqb (c .before .kind .result) 0) (eqb (c .block .result) 0) (leb (c .before .kind .result) 2) (leb firstDataBlock (c .block .result))
+    ∙ simp (c .block .ensures .0, c .before .kind .ensures)))
