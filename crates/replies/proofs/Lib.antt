@@ -1,4 +1,3 @@
--- Laws of the replies and of the records, and the sets of a record.
-pub mod Replies
+-- Laws of the records, and the sets of a record.
 pub mod Records
 pub mod Sets

@@ -1,9 +1,8 @@
 -- `capi::zuzgravel_figures` meets its contract: the reply is that of the outcome, and the records are those that are counted.
 -- Assumes nothing.
+use mathlib.Core.Path.{sym}
 use native.Mathlib.Omega.{arith}
 use borrow.Author.Needs.{needs}
-use Rattle.replies.specs.Replies.{outcomeCode, outcomeWords}
-use Rattle.replies.proofs.Replies.{replies-as}
 use Rattle.replies.proofs.Records.{filled-records}
 use Rattle.capi.proofs.zuzgravel_figures.Statement.{statement}
 use Rattle.capi.proofs.zuzgravel_figures.Tie as tie
@@ -21,5 +20,6 @@ zuzgravel-figures-spec =
     (λ c.
     let filled = c .before .before .before .before in
     let d = filled .before .before .before .before .before in
-    let reply = replies-as outcomeCode outcomeWords _ _ (d .figures .ensures .1) (c .of-outcome .ensures) in
-    (reply .0, (reply .1, filled-records _ _ _ (d .figures .ensures .0 .0) (filled .fill-words .ensures)))))
+    let told = c .of-outcome .ensures in
+    let is = sym (d .figures .ensures .1) in
+    (rw is (told .0), (rw is (told .1), filled-records _ _ _ (d .figures .ensures .0 .0) (filled .fill-words .ensures)))))

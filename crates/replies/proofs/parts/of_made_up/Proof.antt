@@ -1,22 +1,15 @@
 -- `replies::parts::of_made_up` meets its contract: each arm is its variant's case of `madeUpCode`, `madeUpWords` and `partsAfter`.
 -- Assumes nothing.
-use mathlib.Core.Path.{refl, sym}
+use mathlib.Core.Path.{refl}
 use borrow.Author.Needs.{needs}
-use Rattle.replies.proofs.Replies.{parts-as}
 use Rattle.replies.proofs.parts.of_made_up.Statement.{statement}
 use Rattle.replies.proofs.parts.of_made_up.Tie as tie
-
-parts : tie.Need-returns
-parts c = parts-as _ _ _ _ (sym (c .before .before .before .before .made .given .1)) (c .give .ensures .0, (c .give .ensures .1, c .before .before .six .ensures))
-
-spent : tie.Need-returns-2
-spent c = parts-as _ _ _ _ (sym (c .before .before .enum-told .given .1)) (c .give2 .ensures .0, (c .give2 .ensures .1, refl))
-
-refused : tie.Need-returns-3
-refused c = parts-as _ _ _ _ (sym (c .before .before .before .made2 .given .1)) (c .give3 .ensures .0, (c .give3 .ensures .1, refl))
 
 pub of-made-up-spec : {M : Type 1} → statement M
 of-made-up-spec =
     tie.close
     (tie.spec (λ c. search needs) (λ c κs. search needs) (λ c. search needs) (λ c κs. search needs) (λ c. search needs) (λ c κs. search needs) (λ c. search needs)
-    (λ c κs. search needs) parts spent refused)
+    (λ c κs. search needs)
+    (λ c. rw (c .before .before .before .before .made .given .1) (c .give .ensures .0, (c .give .ensures .1, c .before .before .six .ensures)))
+    (λ c. rw (c .before .before .enum-told .given .1) (c .give2 .ensures .0, (c .give2 .ensures .1, refl)))
+    (λ c. rw (c .before .before .before .made2 .given .1) (c .give3 .ensures .0, (c .give3 .ensures .1, refl))))
