@@ -2,7 +2,7 @@
 -- Assumes nothing.
 use Prim.Native.Nat.{ℕ, _≤_}
 use mathlib.Core.List.{List}
-use mathlib.Core.Path.{_≡_, refl, sym, ap, subst, _∙_}
+use mathlib.Core.Path.{_≡_, refl, sym, ap, _∙_}
 use native.Mathlib.Omega.{arith}
 use lib.ListN.{length}
 use Rattle.board.specs.Layout.{tasks, scratchWords}
@@ -10,11 +10,8 @@ use Rattle.board.specs.Sound.{Sound}
 use Rattle.refusals.specs.declared.Verdict.{Verdict}
 use Rattle.refusals.specs.declared.Verdict.the-variants.{Passed, Refused}
 use Rattle.scratch.specs.Scratch.{Room}
-use Rattle.answers.specs.declared.Answer.{Answer}
-use Rattle.answers.specs.declared.Answer.the-variants.{Refused as Answer·Refused}
 use Rattle.answers.specs.declared.Outcome.the-variants.{Value, Refused as Outcome·Refused}
-use Rattle.answers.specs.Answers.{system, unlessRefused, answerFor, timesLeft, ScratchAfter}
-use Rattle.answers.specs.Concluded.{Concluded}
+use Rattle.answers.specs.Answers.{unlessRefused}
 use Rattle.answers.specs.Records.{recordsOf}
 
 -- ---- figures, overhead and weigh: v is what the checks say
@@ -44,18 +41,3 @@ records-room b (Refused number place) e fits = omega arith
 
 pub room-for : {b : List ℕ} {n : ℕ} (w : List ℕ) → Sound b → n ≡ tasks b → scratchWords (tasks b) ≤ length w → Room b n w
 room-for w s e room = record { sound = s; tasks = e; words = rw e room }
-
--- ---- analyse: the answer, the times buffer and the scratch
-
-abbrev pub Leaves : List ℕ → (List ℕ → List ℕ) → Verdict → List ℕ → List ℕ → Answer → List ℕ → List ℕ → Type 0
-Leaves b step v times scratch r times' scratch' = (r ≡ answerFor v b step) × ((times' ≡ timesLeft (system b) step r times) × ScratchAfter v scratch scratch')
-
-module _ (b : List ℕ) (step : List ℕ → List ℕ) (times scratch : List ℕ) {v : Verdict} where
-  pub leaves-refused : {number place : ℕ} → v ≡ Refused number place → Leaves b step v times scratch (Answer·Refused number place) times scratch
-  unfolding timesLeft
-  leaves-refused e = (ap (λ (w : Verdict). answerFor w b step) (sym e), (refl, subst (λ (w : Verdict). ScratchAfter w scratch scratch) (sym e) refl))
-
-  pub leaves-answer : {r : Answer} {times' scratch' : List ℕ} → v ≡ Passed → Concluded b step times scratch r times' scratch'
-      → Leaves b step v times scratch r times' scratch'
-  leaves-answer {scratch' = scratch'} e c =
-      (c .answer ∙ ap (λ (w : Verdict). answerFor w b step) (sym e), (c .given, subst (λ (w : Verdict). ScratchAfter w scratch scratch') (sym e) (c .size)))

@@ -13,7 +13,7 @@ use Rattle.one_pass.specs.Punctual.{punctualSystem}
 use Rattle.one_pass.proofs.Punctual.{system-punctual}
 use Rattle.answers.specs.declared.Answer.{Answer}
 use Rattle.answers.specs.declared.Answer.the-variants.{Times, Late, Spent, Refused}
-use Rattle.answers.specs.Refusals.{weighRefusal}
+use Rattle.checks.specs.CallRefusals.{weighRefusal}
 use Rattle.answers.specs.Answers.{system, unlessRefused, weighAnswer, settledAnswer, timesLeft, timesAfter}
 
 -- systems alike, and steps that lead to the same times: the same answer, and the same times left

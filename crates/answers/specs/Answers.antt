@@ -18,7 +18,7 @@ use Rattle.passes.specs.Passes.{System, pass, passesBy, settledBy, firstLate}
 use Rattle.passes.specs.Visits.{inOrder}
 -- the passes of a board
 pub use Rattle.one_pass.specs.System.{system}
-use Rattle.answers.specs.Refusals.{figuresRefusal, overheadRefusal, weighRefusal, analyseRefusal, inOrderRefusal}
+use Rattle.checks.specs.CallRefusals.{figuresRefusal, overheadRefusal, weighRefusal, analyseRefusal, inOrderRefusal}
 use Rattle.answers.specs.declared.Answer.{Answer}
 use Rattle.answers.specs.declared.Answer.the-variants.{Times, Late, Spent, Refused}
 use Rattle.answers.specs.declared.Outcome.{Outcome}

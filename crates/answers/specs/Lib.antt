@@ -1,6 +1,7 @@
--- What each call refuses, answers and leaves.
-pub mod Refusals
+-- What each call answers, leaves and promises.
 pub mod Answers
+pub mod Demand
+pub mod InOrder
 pub mod MakeUp
 pub mod Records
 pub mod Concluded

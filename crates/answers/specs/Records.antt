@@ -13,5 +13,5 @@ recordsOf Passed b = tasks b
 recordsOf (Refused number place) b = 0
 
 -- n records are to be filled, from the figures in the words and the sets; a table of so many records has room for them
-abbrev pub Counted : Verdict → List ℕ → ℕ → ℕ → List ℕ → List ℕ → Type 0
-Counted v b room n words sets = (n ≡ recordsOf v b) × (Fillable b n words sets × (n ≤ room))
+abbrev pub RecordsToFill : Verdict → List ℕ → ℕ → ℕ → List ℕ → List ℕ → Type 0
+RecordsToFill v b room n words sets = (n ≡ recordsOf v b) × (Fillable b n words sets × (n ≤ room))

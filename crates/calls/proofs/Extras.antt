@@ -2,7 +2,7 @@
 -- stand last, in the call and in the covered function that it hands them on to, and are given up to it.
 --     Extra            one such parameter: its values, its MIR type, what it owns and its machine value
 --     number, words    a `usize`, and a `&'a [T]` of numbers
---     slots, ..        a list of them as the end of a signature: `Denote/Signature.antt`'s and `Denote/Triple/Walked.antt`'s lists, by recursion
+--     trailing, ..     a list of them as the end of a signature: `Denote/Signature.antt`'s and `Denote/Triple/Walked.antt`'s lists, by recursion
 --     taken, passed    the values that a signature's arguments are, and back
 --     tys, machines    as locals of a walk (`Cells.antt`)
 -- Assumes nothing.
@@ -98,25 +98,25 @@ owned-all (x ∷ xs) κ e = fsep (x .own κ (e .0) (x .machine (e .0) ∷ [])) (
 -- ---- as the end of a signature of n lifetimes, the board's being `at`
 
 module _ (n : ℕ) (at : Lfts n → Lft) where
-  abbrev pub slots : List Extra → List (Slot n)
-  slots [] = []
-  slots (x ∷ xs) = plain (λ κs. typeOf x (at κs)) ∷ slots xs
+  abbrev pub trailing : List Extra → List (Slot n)
+  trailing [] = []
+  trailing (x ∷ xs) = plain (λ κs. typeOf x (at κs)) ∷ trailing xs
 
-  abbrev pub keeps : (xs : List Extra) → Kepts (slots xs)
+  abbrev pub keeps : (xs : List Extra) → Kepts (trailing xs)
   keeps [] = tt
   keeps (x ∷ xs) = (yes, keeps xs)
 
-  abbrev pub stays : (xs : List Extra) → Stays (slots xs) (keeps xs)
+  abbrev pub stays : (xs : List Extra) → Stays (trailing xs) (keeps xs)
   stays [] = tt
   stays (x ∷ xs) = (stay-dropped (plain (λ κs. typeOf x (at κs))) yes, stays xs)
 
-  pub goes : {M : Type 1} (𝓤 : URA M) (H : Heap 𝓤) (A : Atoms 𝓤) (W : Given 𝓤 H A) (xs : List Extra) → AllGo 𝓤 H A W n (slots xs) (keeps xs) (stays xs)
+  pub goes : {M : Type 1} (𝓤 : URA M) (H : Heap 𝓤) (A : Atoms 𝓤) (W : Given 𝓤 H A) (xs : List Extra) → AllGo 𝓤 H A W n (trailing xs) (keeps xs) (stays xs)
   goes 𝓤 H A W [] = tt
   goes 𝓤 H A W (x ∷ xs) = (goes-dropped 𝓤 H A W n (plain (λ κs. typeOf x (at κs))) yes (λ κs d f. refl), goes 𝓤 H A W xs)
 
   module _ (κs : Lfts n) where
     abbrev pub Given-values : List Extra → Type 0
-    Given-values xs = Denots (typesAt (slots xs) κs)
+    Given-values xs = Denots (typesAt (trailing xs) κs)
 
     abbrev pub taken : (xs : List Extra) → Given-values xs → Values xs
     taken [] a = tt
@@ -130,50 +130,50 @@ module _ (n : ℕ) (at : Lfts n → Lft) where
     taken-offered [] e = refl
     taken-offered (x ∷ xs) e = ap (λ (r : Values xs). (e .0, r)) (taken-offered xs (e .1))
 
-    abbrev pub spells : (xs : List Extra) → Spells (typesAt (slots xs) κs)
+    abbrev pub spells : (xs : List Extra) → Spells (typesAt (trailing xs) κs)
     spells [] = tt
     spells (x ∷ xs) = ((λ d. x .machine d ∷ []), spells xs)
 
-    pub tells-all : (xs : List Extra) → Tellss (typesAt (slots xs) κs) (Ises (typesAt (slots xs) κs)) (spells xs)
+    pub tells-all : (xs : List Extra) → Tellss (typesAt (trailing xs) κs) (Ises (typesAt (trailing xs) κs)) (spells xs)
     tells-all [] = tt
     tells-all (x ∷ xs) = (x .tells (at κs), tells-all xs)
 
-    abbrev pub spelled : (xs : List Extra) → Given-values xs → Valss (typesAt (slots xs) κs)
-    spelled xs a = valss (typesAt (slots xs) κs) (spells xs) a
+    abbrev pub spelled : (xs : List Extra) → Given-values xs → Valss (typesAt (trailing xs) κs)
+    spelled xs a = valss (typesAt (trailing xs) κs) (spells xs) a
 
-    pub flat-taken : (xs : List Extra) (a : Given-values xs) → flat (typesAt (slots xs) κs) (spelled xs a) ≡ listed (tys xs) (machines xs (taken xs a)) ++ []
+    pub flat-taken : (xs : List Extra) (a : Given-values xs) → flat (typesAt (trailing xs) κs) (spelled xs a) ≡ listed (tys xs) (machines xs (taken xs a)) ++ []
     flat-taken [] a = refl
     flat-taken (x ∷ xs) a = ap (λ (vs : List Val). x .machine (a .0) ∷ vs) (flat-taken xs (a .1))
 
-    pub flat-offered : (xs : List Extra) (e : Values xs) → flat (typesAt (slots xs) κs) (spelled xs (offered xs e)) ≡ listed (tys xs) (machines xs e)
+    pub flat-offered : (xs : List Extra) (e : Values xs) → flat (typesAt (trailing xs) κs) (spelled xs (offered xs e)) ≡ listed (tys xs) (machines xs e)
     flat-offered [] e = refl
     flat-offered (x ∷ xs) e = ap (λ (vs : List Val). x .machine (e .0) ∷ vs) (flat-offered xs (e .1))
 
-    pub owns-taken : (xs : List Extra) (a : Given-values xs) → owns (typesAt (slots xs) κs) a (spelled xs a) ≡ owned-all xs (at κs) (taken xs a)
+    pub owns-taken : (xs : List Extra) (a : Given-values xs) → owns (typesAt (trailing xs) κs) a (spelled xs a) ≡ owned-all xs (at κs) (taken xs a)
     owns-taken [] a = refl
     owns-taken (x ∷ xs) a = ap (fsep (x .own (at κs) (a .0) (x .machine (a .0) ∷ []))) (owns-taken xs (a .1))
 
-    pub owns-offered : (xs : List Extra) (e : Values xs) → owns (typesAt (slots xs) κs) (offered xs e) (spelled xs (offered xs e)) ≡ owned-all xs (at κs) e
+    pub owns-offered : (xs : List Extra) (e : Values xs) → owns (typesAt (trailing xs) κs) (offered xs e) (spelled xs (offered xs e)) ≡ owned-all xs (at κs) e
     owns-offered [] e = refl
     owns-offered (x ∷ xs) e = ap (fsep (x .own (at κs) (e .0) (x .machine (e .0) ∷ []))) (owns-offered xs (e .1))
 
-    pub fitting : (xs : List Extra) (a : Given-values xs) → Are (typesAt (slots xs) κs) (Ises (typesAt (slots xs) κs)) a (spelled xs a) → Fitting (tys xs) (machines xs (taken xs a))
+    pub fitting : (xs : List Extra) (a : Given-values xs) → Are (typesAt (trailing xs) κs) (Ises (typesAt (trailing xs) κs)) a (spelled xs a) → Fitting (tys xs) (machines xs (taken xs a))
     fitting [] a are = tt
     fitting (x ∷ xs) a are = (x .fits (at κs) (a .0) (are .0), fitting xs (a .1) (are .1))
 
     -- at exit they are as they were
-    abbrev pub lasting : (xs : List Extra) (a : Given-values xs) → Fins κs (slots xs) (keeps xs) a
+    abbrev pub lasting : (xs : List Extra) (a : Given-values xs) → Fins κs (trailing xs) (keeps xs) a
     lasting [] a = tt
     lasting (x ∷ xs) a = (tt, lasting xs (a .1))
 
-    pub lasting-fits : (xs : List Extra) (a : Given-values xs) → fitsOf κs (slots xs) (keeps xs) (stays xs) a (lasting xs a)
+    pub lasting-fits : (xs : List Extra) (a : Given-values xs) → fitsOf κs (trailing xs) (keeps xs) (stays xs) a (lasting xs a)
     lasting-fits [] a = tt
     lasting-fits (x ∷ xs) a = (tt, lasting-fits xs (a .1))
 
     -- and nothing is had of them
-    pub none-had : {M : Type 1} (𝓤 : URA M) (H : Heap 𝓤) (A : Atoms 𝓤) (W : Given 𝓤 H A) (xs : List Extra) (a : Given-values xs) (vss : Valss (typesAt (slots xs) κs))
-        → ent 𝓤 (emp 𝓤) (sem 𝓤 H A (hasOf κs (slots xs) (keeps xs) (stays xs) a (lasting xs a) vss))
+    pub none-had : {M : Type 1} (𝓤 : URA M) (H : Heap 𝓤) (A : Atoms 𝓤) (W : Given 𝓤 H A) (xs : List Extra) (a : Given-values xs) (vss : Valss (typesAt (trailing xs) κs))
+        → ent 𝓤 (emp 𝓤) (sem 𝓤 H A (hasOf κs (trailing xs) (keeps xs) (stays xs) a (lasting xs a) vss))
     none-had 𝓤 H A W [] a vss = id⊢ 𝓤 _
     none-had 𝓤 H A W (x ∷ xs) a vss =
-        qed W [] ∵ use0 W (‵ (hasOf κs (slots xs) (keeps xs) (stays xs) (a .1) (lasting xs (a .1)) (vss .1))) (none-had 𝓤 H A W xs (a .1) (vss .1)) $
+        qed W [] ∵ use0 W (‵ (hasOf κs (trailing xs) (keeps xs) (stays xs) (a .1) (lasting xs (a .1)) (vss .1))) (none-had 𝓤 H A W xs (a .1) (vss .1)) $
         use0 W (‵ ftrue) (id⊢ 𝓤 _) $ fjoin ! $ done !

@@ -19,8 +19,7 @@ use types.Kit.{Given, Item, Post, runs, Step, step, _$_, move, group, split}
 use types.Run.{Walks, Finds, Opds, look, init, stop, hop, fld, from, load, addr, and-then, no-more, assigns}
 use types.Part.{agg, whole, sub, look-in}
 use Rattle.calls.proofs.Cells.{Vals, listed, count, operands, Fitting, Blocks, env, none, past, rooms, cells, Readable, part-left, part-right, found, loads-from}
-use Rattle.calls.proofs.Buffers.{Buffers, Refs, paramTys, paramVals, tempTys, tempVals, argVals}
-use Rattle.calls.proofs.Buffers.{none as no-buffers, both}
+use Rattle.calls.proofs.Buffers.{Buffers, no-buffers, times-and-scratch, Refs, paramTys, paramVals, tempTys, tempVals, argVals}
 
 abbrev toSpot : Ty × ℕ → Ty × ℕ × ℕ
 toSpot e = (e .0, e .1, zero)
@@ -28,13 +27,13 @@ toSpot e = (e .0, e .1, zero)
 -- ---- the statements that lend the buffers on, X being the further parameters' types and O those of the own locals
 
 module _ (X O : List Ty) where
-  -- a temporary of L, the buffers being both
+  -- a temporary of L, there being buffers
   abbrev lent-at : ℕ → ℕ
   lent-at j = 2 + (count X + (3 + (count O + j)))
 
   abbrev pub lendings : Buffers → Body → Body
   lendings no-buffers k = k
-  lendings both k =
+  lendings times-and-scratch k =
       seq (assign (place (lent-at 0) []) (addrOf (place 2 (field 0 ∷ deref (tyInt w32) ∷ []))))
       (seq (assign (place (lent-at 1) []) (aggregate (copy (place (lent-at 0) []) ∷ copy (place 2 (field 1 ∷ [])) ∷ [])))
       (seq (assign (place (lent-at 2) []) (addrOf (place 3 (field 0 ∷ deref (tyInt w32) ∷ []))))
@@ -42,7 +41,7 @@ module _ (X O : List Ty) where
 
   abbrev pub lendOperands : Buffers → List Operand
   lendOperands no-buffers = []
-  lendOperands both = copy (place (lent-at 1) []) ∷ copy (place (lent-at 3) []) ∷ []
+  lendOperands times-and-scratch = copy (place (lent-at 1) []) ∷ copy (place (lent-at 3) []) ∷ []
 
 after-one : (e₀ : Ty × ℕ) (R : List (Ty × ℕ)) (j i : ℕ) → i ≡ 1 + j → getD (e₀ ∷ R) i none ≡ getD R j none
 after-one e₀ R j i e = let one : i ≡ suc j = omega arith in ap (λ (k : ℕ). getD (e₀ ∷ R) k none) one
@@ -108,7 +107,7 @@ module _ {M : Type 1} {𝓤 : URA M} {H : Heap 𝓤} {A : Atoms 𝓤} {K : Type 
       → Step K W (cells (tempTys g) (z .lent) (tempVals g x) ∷ cells (paramTys g) (z .buffers) (paramVals g x) ∷ Γ) (runs C Λ (frame z e₀ e₁) k q)
       (rooms (tempTys g) (z .lent) ∷ cells (paramTys g) (z .buffers) (paramVals g x) ∷ Γ) (runs C Λ (frame z e₀ e₁) (lendings X O g k) q)
   lends-all t no-buffers z x fit = step (λ s. s)
-  lends-all t both z x fit =
+  lends-all t times-and-scratch z x fit =
       step (λ s.
       split t $ move t (1 ∷ []) $ split t $ move t (1 ∷ []) $ split t $ move t (1 ∷ []) $ split t $ move t (1 ∷ []) $ split t $ move t (1 ∷ []) $ split t $ move t (1 ∷ []) $
       split t $ move t (1 ∷ []) $ split t $ move t (1 ∷ []) $
@@ -124,7 +123,7 @@ module _ {M : Type 1} {𝓤 : URA M} {H : Heap 𝓤} {A : Atoms 𝓤} {K : Type 
   pub loads-lent : K → (g : Buffers) (z : Locals (paramTys g) X O (tempTys g)) (x : Refs g) {os : List Operand} {vs : List Val} → Readable K W Γ (tempTys g) (z .lent) (tempVals g x)
       → Opds K W Γ (frame z e₀ e₁) os vs → Opds K W Γ (frame z e₀ e₁) (lendOperands X O g ++ os) (argVals g x ++ vs)
   loads-lent t no-buffers z x reads loads = loads
-  loads-lent t both z x reads loads =
+  loads-lent t times-and-scratch z x reads loads =
       and-then t (load t (on-lent z t 1 (stop t)) (reads _ _ _ _ _ _ (part-right t (part-right t (part-left t (whole t))))))
       (and-then t (load t (on-lent z t 3 (stop t)) (reads _ _ _ _ _ _ (part-right t (part-right t (part-right t (part-right t (part-right t (part-right t (part-left t (whole t))))))))))
       loads)

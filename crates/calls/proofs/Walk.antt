@@ -74,7 +74,7 @@ use Rattle.figures.proofs.Figure.Laws as T′
 use Rattle.table.proofs.fill as fill
 use Rattle.table.proofs.fill.Symbol.{name as #table·fill}
 use Rattle.answers.specs.Answers.{tableAfter}
-use Rattle.answers.specs.Records.{Counted}
+use Rattle.answers.specs.Records.{RecordsToFill}
 use Rattle.calls.proofs.Steps.{says-all, is-unit, val}
 use Rattle.calls.proofs.Loans.{local-in, local-out, zero-array, array-fits}
 use Rattle.calls.proofs.Cells.{listed, count, locals, operands, Fitting, env, alloc-all, pass-all, forget-all, free-all}
@@ -124,7 +124,7 @@ module _ (S : RattleType) (g : Buffers) (xs : List Extra) (Refuse : List ℕ →
 
   -- what `work` says, of what it was handed and of what it left
   abbrev Worked : List ℕ → Handed g xs → Answer → Left g → Type 0
-  Worked b h r z = Counted (Refuse b (lists g (h .buffers)) (h .room) (h .extras)) b (h .room) (z .records) (z .words) (z .sets) × Done b (lists g (h .buffers)) (h .room)
+  Worked b h r z = RecordsToFill (Refuse b (lists g (h .buffers)) (h .room) (h .extras)) b (h .room) (z .records) (z .words) (z .sets) × Done b (lists g (h .buffers)) (h .room)
       (h .extras) r (z .buffers)
 
   abbrev works : {M : Type 1} (𝓤 : URA M) → Clauses 𝓤 (worked-by xs g S)
@@ -276,7 +276,7 @@ module _ (S : RattleType) (g : Buffers) (xs : List Extra) (Refuse : List ℕ →
           as-machine {K} {Γ} {E} {os} t loads = subst (λ (us : List Val). Opds K W Γ E os us) (sym (flat-work xs g S κw b h)) loads
 
         -- at exit
-        leaves : (u : Val) (r : Answer) (new : Lists g) (n : ℕ) (ws es : List ℕ) (fs : List Figure) → Counted v (now b) m n ws es → Done (now b) (lists g x) m e r new
+        leaves : (u : Val) (r : Answer) (new : Lists g) (n : ℕ) (ws es : List ℕ) (fs : List Figure) → RecordsToFill v (now b) m n ws es → Done (now b) (lists g x) m e r new
             → Filled (now b) (now f) n fs
             → ent 𝓤 (⋆ 𝓤 H A (exit-items xs 𝓤 H A W S g κs qs a u r new fs)) (Post u)
         leaves u r new n ws es fs counts does fills =

@@ -11,11 +11,11 @@ use refusals::Verdict;
 ghost use mathlib.Core.Path.{_≡_};
 ghost use lib.ListN.{length};
 ghost use Rattle.board.specs.Layout.{mostTasks};
-ghost use Rattle.answers.specs.Refusals.{figuresRefusal, analyseRefusal, inOrderRefusal, makeUpRefusal};
+ghost use Rattle.checks.specs.CallRefusals.{figuresRefusal, analyseRefusal, inOrderRefusal, makeUpRefusal};
 ghost use Rattle.answers.specs.Answers.{figuresAnswer, overheadAnswer, weighAnswer, tableAfter};
-ghost use Rattle.promises.specs.Demand.{Analysed};
-ghost use Rattle.promises.specs.InOrder.{AnalysedInOrder};
-ghost use Rattle.promises.specs.MakeUp.{MadeUpAll};
+ghost use Rattle.answers.specs.Demand.{Analysed};
+ghost use Rattle.answers.specs.InOrder.{AnalysedInOrder};
+ghost use Rattle.answers.specs.MakeUp.{MadeUpAll};
 
 // The response times of a board. Unless refused, the table is filled as `figures` fills it, and the scratch ends with free contents.
 pub fn analyse(

@@ -10,11 +10,11 @@ ghost use mathlib.Core.Path.{_≡_};
 ghost use lib.ListN.{length};
 ghost use Rattle.answers.specs.declared.Answer.{Answer};
 ghost use Rattle.answers.specs.declared.MadeUp.{MadeUp};
-ghost use Rattle.answers.specs.Refusals.{figuresRefusal, analyseRefusal, inOrderRefusal, makeUpRefusal};
+ghost use Rattle.checks.specs.CallRefusals.{figuresRefusal, analyseRefusal, inOrderRefusal, makeUpRefusal};
 ghost use Rattle.answers.specs.Answers.{figuresAnswer, overheadAnswer, weighAnswer};
-ghost use Rattle.promises.specs.Demand.{Analysed};
-ghost use Rattle.promises.specs.InOrder.{AnalysedInOrder};
-ghost use Rattle.promises.specs.MakeUp.{MadeUpAll};
+ghost use Rattle.answers.specs.Demand.{Analysed};
+ghost use Rattle.answers.specs.InOrder.{AnalysedInOrder};
+ghost use Rattle.answers.specs.MakeUp.{MadeUpAll};
 ghost use Rattle.replies.specs.Replies.{outcomeCode, outcomeWords, answerCode, answerWords, madeUpCode, madeUpWords, partsAfter};
 ghost use Rattle.replies.specs.Records.{recordRoom, recordsAfter};
 

@@ -20,7 +20,7 @@ use Rattle.sums.specs.Sums.{addedJitter, memoryDemand, ownAccesses, carryIn, co
 use Rattle.sums.specs.Cases.{K1, K2, K3, K4, K5, K6, K7, K8, K8-putOff}
 use Rattle.passes.specs.Passes.{pass, after, unchanged, changes, passesBy, settledBy, firstLate}
 use Rattle.passes.specs.Visits.{inTurn}
-use Rattle.answers.specs.Refusals.{figuresRefusal, overheadRefusal, analyseRefusal, inOrderRefusal}
+use Rattle.checks.specs.CallRefusals.{figuresRefusal, overheadRefusal, analyseRefusal, inOrderRefusal}
 use Rattle.answers.specs.Answers.{figuresAnswer, overheadAnswer, settledAnswer, analyseAnswer, inOrderAnswer, timesLeft, timesAfter}
 use Rattle.input.specs.Input.{wordsIn, inputRefusal}
 use Rattle.text.specs.Text.{digitsOf, decimal, line}

@@ -16,7 +16,7 @@ use Rattle.sums.specs.SixParts.{sixParts, total, reason}
 use Rattle.sums.specs.Cases.{K7, K1-jitter, K1-oneCore}
 use Rattle.passes.specs.Passes.{pass, after, unchanged, changes, passesBy, settledBy, firstLate}
 use Rattle.interference.specs.Parts.{sumParts}
-use Rattle.answers.specs.Refusals.{weighRefusal, analyseRefusal, makeUpRefusal}
+use Rattle.checks.specs.CallRefusals.{weighRefusal, analyseRefusal, makeUpRefusal}
 use Rattle.answers.specs.Answers.{weighAnswer, settledAnswer, analyseAnswer, timesLeft, timesAfter}
 use Rattle.answers.specs.MakeUp.{settledMadeUp, makeUpAnswer}
 use Rattle.text.specs.Text.{digitsOf, decimal, line}

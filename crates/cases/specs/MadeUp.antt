@@ -16,7 +16,7 @@ use Rattle.sums.specs.SixParts.{sixParts, total, reason}
 use Rattle.sums.specs.Cases.{K1, K4, K5, K6, K8-putOff}
 use Rattle.passes.specs.Passes.{pass, after, unchanged, changes, passesBy, settledBy}
 use Rattle.interference.specs.Parts.{sumParts}
-use Rattle.answers.specs.Refusals.{makeUpRefusal}
+use Rattle.checks.specs.CallRefusals.{makeUpRefusal}
 use Rattle.answers.specs.MakeUp.{settledMadeUp, makeUpAnswer}
 use Rattle.input.specs.Input.{wordsIn, inputRefusal}
 use Rattle.input.specs.Argument.{valueTo, numberIn}

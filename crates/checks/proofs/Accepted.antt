@@ -19,7 +19,7 @@ use Rattle.refusals.specs.declared.Verdict.the-variants.{Passed}
 use Rattle.refusals.proofs.Verdicts.{orElse-passed, refuseUnless-passed}
 use Rattle.refusals.proofs.Sound.{sound, within-true, refuseFirst-passed}
 use Rattle.sums.specs.Sums.{bound}
-use Rattle.checks.specs.Refusals.{taskRow, timesRow, scratchRow, tableRow, bufferRows, timeOk, timeRow, namedBefore, numberOk, orderRow, figuresRefusal, overheadRefusal, weighRefusal, analyseRefusal, inOrderRefusal, makeUpRefusal}
+use Rattle.checks.specs.CallRefusals.{taskRow, timesRow, scratchRow, tableRow, bufferRows, timeOk, timeRow, namedBefore, numberOk, orderRow, figuresRefusal, overheadRefusal, weighRefusal, analyseRefusal, inOrderRefusal, makeUpRefusal}
 use Rattle.checks.specs.Accepted.{FiguresTaken, OverheadTaken, WeighTaken, AnalyseTaken, InOrderTaken, MakeUpTaken}
 use Rattle.checks.proofs.Checks.{orElse-assoc}
 

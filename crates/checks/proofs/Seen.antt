@@ -12,7 +12,7 @@ use Rattle.folds.proofs.Folds.{anyTo-none}
 use Rattle.folds.proofs.Loops.{anyTo-turn}
 use Rattle.bitset.specs.Bits.{bit, wordOf}
 use Rattle.bitset.proofs.Words.{bit-none, bit-wordOf, wordOf-is, wordOf-cong}
-use Rattle.checks.specs.Refusals.{namedBefore}
+use Rattle.checks.specs.CallRefusals.{namedBefore}
 
 module _ (order : List ℕ) where
   abbrev pub seenTo : ℕ → ℕ

@@ -1,3 +1,3 @@
 -- What each call refuses, and what it knows where it does not.
-pub mod Refusals
+pub mod CallRefusals
 pub mod Accepted

@@ -12,7 +12,7 @@ use rows::task_row;
 use rows::time_row;
 use rows::times_row;
 ghost use mathlib.Core.Path.{_≡_};
-ghost use Rattle.checks.specs.Refusals.{figuresRefusal, overheadRefusal, weighRefusal, analyseRefusal, inOrderRefusal, makeUpRefusal};
+ghost use Rattle.checks.specs.CallRefusals.{figuresRefusal, overheadRefusal, weighRefusal, analyseRefusal, inOrderRefusal, makeUpRefusal};
 
 // What `figures` checks, its table being of this many records.
 pub fn check_figures(board: &[u32], room: usize) -> Verdict

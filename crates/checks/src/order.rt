@@ -11,7 +11,7 @@ ghost use lib.ListN.{length};
 ghost use Rattle.board.specs.Layout.{mostTasks};
 ghost use Rattle.ranges.specs.Ranges.{within};
 ghost use Rattle.refusals.specs.Refusals.{firstBad, refuseFirst};
-ghost use Rattle.checks.specs.Refusals.{numberOk, orderRow};
+ghost use Rattle.checks.specs.CallRefusals.{numberOk, orderRow};
 
 // Row 16, of a list of task numbers: its length, and then its numbers.
 pub fn order_row(n: usize, order: &[u32]) -> Verdict

@@ -9,7 +9,7 @@ ghost use lib.ListN.{length};
 ghost use Rattle.board.specs.Layout.{tasks, mostTasks};
 ghost use Rattle.refusals.specs.Refusals.{firstBad, refusalOf};
 ghost use Rattle.refusals.specs.declared.Verdict.the-variants.{Passed};
-ghost use Rattle.checks.specs.Refusals.{taskRow, timesRow, scratchRow, tableRow, bufferRows, timeOk, timeRow};
+ghost use Rattle.checks.specs.CallRefusals.{taskRow, timesRow, scratchRow, tableRow, bufferRows, timeOk, timeRow};
 ghost use Rattle.checks.specs.Accepted.{Judged};
 
 // What a board's own rows say, and its tasks: 0 where one of them refuses.

@@ -34,9 +34,9 @@ use Rattle.figures.proofs.Figure as T
 use Rattle.figures.proofs.Figure.Laws as T′
 use Rattle.calls.proofs.Steps.{val}
 use Rattle.calls.proofs.Cells.{listed, Fitting}
-use Rattle.calls.proofs.Extras.{Extra, Values, tys, machines, owned-all, slots, keeps, stays, goes, taken, spells, tells-all, flat-taken, owns-taken, fitting, lasting}
+use Rattle.calls.proofs.Extras.{Extra, Values, tys, machines, owned-all, trailing, keeps, stays, goes, taken, spells, tells-all, flat-taken, owns-taken, fitting, lasting}
 use Rattle.calls.proofs.Extras.{lasting-fits, none-had}
-use Rattle.calls.proofs.Buffers.{Buffers, none, both, size, Refs, Lists, paramTys, paramVals, first, left}
+use Rattle.calls.proofs.Buffers.{Buffers, no-buffers, times-and-scratch, size, Refs, Lists, paramTys, paramVals, first, left}
 
 -- the table's type, and its machine value
 abbrev pub Table : ℕ → RattleType
@@ -64,20 +64,20 @@ module _ (N : ℕ) (xs : List Extra) where
 
   -- the slots after the board's
   abbrev rest : (g : Buffers) → List (Slot (lending g))
-  rest none = table ∷ slots 1 (first 0) xs
-  rest both = mutSlice 1 tt (λ _. u32) ∷ mutSlice 2 tt (λ _. u32) ∷ table ∷ slots 3 (first 2) xs
+  rest no-buffers = table ∷ trailing 1 (first 0) xs
+  rest times-and-scratch = mutSlice 1 tt (λ _. u32) ∷ mutSlice 2 tt (λ _. u32) ∷ table ∷ trailing 3 (first 2) xs
 
   abbrev rest-kept : (g : Buffers) → Kepts (rest g)
-  rest-kept none = (yes, keeps 1 (first 0) xs)
-  rest-kept both = (yes, (yes, (yes, keeps 3 (first 2) xs)))
+  rest-kept no-buffers = (yes, keeps 1 (first 0) xs)
+  rest-kept times-and-scratch = (yes, (yes, (yes, keeps 3 (first 2) xs)))
 
   abbrev rest-stays : (g : Buffers) → Stays (rest g) (rest-kept g)
-  rest-stays none = (stay-dropped table yes, stays 1 (first 0) xs)
-  rest-stays both = (gave-slice (1 ∷ []) tt word, (gave-slice (2 ∷ []) tt word, (stay-dropped table yes, stays 3 (first 2) xs)))
+  rest-stays no-buffers = (stay-dropped table yes, stays 1 (first 0) xs)
+  rest-stays times-and-scratch = (gave-slice (1 ∷ []) tt word, (gave-slice (2 ∷ []) tt word, (stay-dropped table yes, stays 3 (first 2) xs)))
 
   rest-go : {M : Type 1} (𝓤 : URA M) (H : Heap 𝓤) (A : Atoms 𝓤) (W : Given 𝓤 H A) (g : Buffers) → AllGo 𝓤 H A W (lending g) (rest g) (rest-kept g) (rest-stays g)
-  rest-go 𝓤 H A W none = (goes-dropped 𝓤 H A W 1 table yes (λ κs x f. refl), goes 1 (first 0) 𝓤 H A W xs)
-  rest-go 𝓤 H A W both =
+  rest-go 𝓤 H A W no-buffers = (goes-dropped 𝓤 H A W 1 table yes (λ κs x f. refl), goes 1 (first 0) 𝓤 H A W xs)
+  rest-go 𝓤 H A W times-and-scratch =
       (goes-gave-slice 𝓤 H A W 3 1 tt word, (goes-gave-slice 𝓤 H A W 3 2 tt word, (goes-dropped 𝓤 H A W 3 table yes (λ κs x f. refl), goes 3 (first 2) 𝓤 H A W xs)))
 
   abbrev pub ended : Buffers → Ended
@@ -94,12 +94,12 @@ module _ (N : ℕ) (xs : List Extra) where
 
   -- the machine values
   abbrev rest-spells : (g : Buffers) (κs : Lfts (lending g)) → Spells (typesAt (rest g) κs)
-  rest-spells none κs = (array-vals (λ (f : Figure). T′.lowered f ∷ []), spells 1 (first 0) κs xs)
-  rest-spells both κs = (slice-vals, (slice-vals, (array-vals (λ (f : Figure). T′.lowered f ∷ []), spells 3 (first 2) κs xs)))
+  rest-spells no-buffers κs = (array-vals (λ (f : Figure). T′.lowered f ∷ []), spells 1 (first 0) κs xs)
+  rest-spells times-and-scratch κs = (slice-vals, (slice-vals, (array-vals (λ (f : Figure). T′.lowered f ∷ []), spells 3 (first 2) κs xs)))
 
   rest-tells : (g : Buffers) (κs : Lfts (lending g)) → Tellss (typesAt (rest g) κs) (Ises (typesAt (rest g) κs)) (rest-spells g κs)
-  rest-tells none κs = (array-tells T.the-row (λ f. T′.lowered f ∷ []) (T′.lowers .val-is) N, tells-all 1 (first 0) κs xs)
-  rest-tells both κs =
+  rest-tells no-buffers κs = (array-tells T.the-row (λ f. T′.lowered f ∷ []) (T′.lowers .val-is) N, tells-all 1 (first 0) κs xs)
+  rest-tells times-and-scratch κs =
       (mut-slice-tells (named 1) (κs .1 .0) u32, (mut-slice-tells (named 2) (κs .1 .1 .0) u32, (array-tells T.the-row (λ f. T′.lowered f ∷ []) (T′.lowers .val-is) N, tells-all 3 (first 2) κs xs)))
 
   abbrev pub all-spells : (g : Buffers) (κs : Lfts (lending g)) → Spells (typesAt (ended g .signature .params) κs)
@@ -114,12 +114,12 @@ module _ (N : ℕ) (xs : List Extra) where
 
   -- the arguments beside the board, and the last lists
   abbrev pub opened : (g : Buffers) (κs : Lfts (lending g)) → Denots (typesAt (rest g) κs) → Opened g xs
-  opened none κs a = record { buffers = tt; table = a .0; extras = taken 1 (first 0) κs xs (a .1) }
-  opened both κs a = record { buffers = (a .0, a .1 .0); table = a .1 .1 .0; extras = taken 3 (first 2) κs xs (a .1 .1 .1) }
+  opened no-buffers κs a = record { buffers = tt; table = a .0; extras = taken 1 (first 0) κs xs (a .1) }
+  opened times-and-scratch κs a = record { buffers = (a .0, a .1 .0); table = a .1 .1 .0; extras = taken 3 (first 2) κs xs (a .1 .1 .1) }
 
   abbrev rest-last : (g : Buffers) (κs : Lfts (lending g)) (a : Denots (typesAt (rest g) κs)) → Lists g → Fins κs (rest g) (rest-kept g) a
-  rest-last none κs a new = (tt, lasting 1 (first 0) κs xs (a .1))
-  rest-last both κs a new = (new .0, (new .1, (tt, lasting 3 (first 2) κs xs (a .1 .1 .1))))
+  rest-last no-buffers κs a new = (tt, lasting 1 (first 0) κs xs (a .1))
+  rest-last times-and-scratch κs a new = (new .0, (new .1, (tt, lasting 3 (first 2) κs xs (a .1 .1 .1))))
 
   abbrev pub last : (g : Buffers) (κs : Lfts (lending g)) (a : Args (ended g .signature) κs) → Lists g → Lasts (ended g) κs a
   last g κs a new = (tt, rest-last g κs (a .1) new)
@@ -127,8 +127,8 @@ module _ (N : ℕ) (xs : List Extra) where
   rest-flat : (g : Buffers) (κs : Lfts (lending g)) (a : Denots (typesAt (rest g) κs)) → let o = opened g κs a in
       flat (typesAt (rest g) κs) (valss (typesAt (rest g) κs) (rest-spells g κs) a)
       ≡ listed (paramTys g) (paramVals g (o .buffers)) ++ (tableVal (o .table) ∷ (listed (tys xs) (machines xs (o .extras)) ++ []))
-  rest-flat none κs a = ap (λ (vs : List Val). tableVal (a .0) ∷ vs) (flat-taken 1 (first 0) κs xs (a .1))
-  rest-flat both κs a = ap (λ (vs : List Val). val (a .0) ∷ val (a .1 .0) ∷ tableVal (a .1 .1 .0) ∷ vs) (flat-taken 3 (first 2) κs xs (a .1 .1 .1))
+  rest-flat no-buffers κs a = ap (λ (vs : List Val). tableVal (a .0) ∷ vs) (flat-taken 1 (first 0) κs xs (a .1))
+  rest-flat times-and-scratch κs a = ap (λ (vs : List Val). val (a .0) ∷ val (a .1 .0) ∷ tableVal (a .1 .1 .0) ∷ vs) (flat-taken 3 (first 2) κs xs (a .1 .1 .1))
 
   pub flat-all : (g : Buffers) (κs : Lfts (lending g)) (a : Args (ended g .signature) κs) → let o = opened g κs (a .1) in
       flat (typesAt (ended g .signature .params) κs) (all-vals g κs a)
@@ -138,8 +138,8 @@ module _ (N : ℕ) (xs : List Extra) where
   pub all-fit : (g : Buffers) (κs : Lfts (lending g)) (a : Denots (typesAt (rest g) κs)) → let o = opened g κs a in
       Are (typesAt (rest g) κs) (Ises (typesAt (rest g) κs)) a (valss (typesAt (rest g) κs) (rest-spells g κs) a)
       → Fitting (paramTys g) (paramVals g (o .buffers)) × (Is (Table N) (o .table) (tableVal (o .table) ∷ []) × Fitting (tys xs) (machines xs (o .extras)))
-  all-fit none κs a are = (tt, (are .0, fitting 1 (first 0) κs xs (a .1) (are .1)))
-  all-fit both κs a are = (
+  all-fit no-buffers κs a are = (tt, (are .0, fitting 1 (first 0) κs xs (a .1) (are .1)))
+  all-fit times-and-scratch κs a are = (
     ((tt, (tt, (record { fits = are .0 .0 .1 .0 }, tt))), ((tt, (tt, (record { fits = are .1 .0 .0 .1 .0 }, tt))), tt)),
     (are .1 .1 .0, fitting 3 (first 2) κs xs (a .1 .1 .1) (are .1 .1 .1)),
   )
@@ -148,12 +148,12 @@ module _ (N : ℕ) (xs : List Extra) where
 
   module _ {M : Type 1} (𝓤 : URA M) where
     abbrev pub tokens : (g : Buffers) → Lfts (lending g) → Shares (lending g) → Item 𝓤
-    tokens none κs qs = ‵ ftrue
-    tokens both κs qs = ‵ (flft (κs .1 .0) (qs .1 .0)) ⊛ ‵ (flft (κs .1 .1 .0) (qs .1 .1 .0))
+    tokens no-buffers κs qs = ‵ ftrue
+    tokens times-and-scratch κs qs = ‵ (flft (κs .1 .0) (qs .1 .0)) ⊛ ‵ (flft (κs .1 .1 .0) (qs .1 .1 .0))
 
     abbrev pub owned : (g : Buffers) → Lfts (lending g) → Refs g → Item 𝓤
-    owned none κs x = ‵ ftrue
-    owned both κs x = ‵ (MutSlice (named 1) (κs .1 .0) u32 .own (x .0) (val (x .0) ∷ [])) ⊛ ‵ (MutSlice (named 2) (κs .1 .1 .0) u32 .own (x .1) (val (x .1) ∷ []))
+    owned no-buffers κs x = ‵ ftrue
+    owned times-and-scratch κs x = ‵ (MutSlice (named 1) (κs .1 .0) u32 .own (x .0) (val (x .0) ∷ [])) ⊛ ‵ (MutSlice (named 2) (κs .1 .1 .0) u32 .own (x .1) (val (x .1) ∷ []))
 
   module _ {M : Type 1} (𝓤 : URA M) (H : Heap 𝓤) (A : Atoms 𝓤) (W : Given 𝓤 H A) where
     abbrev pub entry-items : (g : Buffers) (κs : Lfts (lending g)) → Shares (lending g) → Args (ended g .signature) κs → List (Item 𝓤)
@@ -163,13 +163,13 @@ module _ (N : ℕ) (xs : List Extra) where
 
     pub enters : (g : Buffers) (κs : Lfts (lending g)) (qs : Shares (lending g)) (a : Args (ended g .signature) κs)
         → ent 𝓤 (onEntry 𝓤 H A (ended g .signature) κs qs a (all-vals g κs a)) (⋆ 𝓤 H A (entry-items g κs qs a))
-    enters none κs qs a =
-        qed W ((‵ (flft (κs .0) (qs .0)) ⊛ ‵ ftrue) ∷ ‵ (owns (typesAt (ended none .signature .params) κs) a (all-vals none κs a)) ∷ []) ∵
+    enters no-buffers κs qs a =
+        qed W ((‵ (flft (κs .0) (qs .0)) ⊛ ‵ ftrue) ∷ ‵ (owns (typesAt (ended no-buffers .signature .params) κs) a (all-vals no-buffers κs a)) ∷ []) ∵
         split ! $ move ! (2 ∷ []) $ fsplit ! $ move ! (1 ∷ []) $ fsplit ! $ move ! (1 ∷ []) $
         rewrite ! 0 (λ (P : Fml). ‵ P) (owns-taken 1 (first 0) κs xs (a .1 .1)) refl $ use0 W (‵ ftrue) (id⊢ 𝓤 _) $ keep ! (4 ∷ 0 ∷ 3 ∷ 5 ∷ 2 ∷ 1 ∷ []) $ done !
-    enters both κs qs a =
+    enters times-and-scratch κs qs a =
         qed W ((‵ (flft (κs .0) (qs .0)) ⊛ ‵ (flft (κs .1 .0) (qs .1 .0)) ⊛ ‵ (flft (κs .1 .1 .0) (qs .1 .1 .0)) ⊛ ‵ ftrue)
-        ∷ ‵ (owns (typesAt (ended both .signature .params) κs) a (all-vals both κs a)) ∷ []) ∵
+        ∷ ‵ (owns (typesAt (ended times-and-scratch .signature .params) κs) a (all-vals times-and-scratch κs a)) ∷ []) ∵
         split ! $ move ! (1 ∷ []) $ split ! $ move ! (1 ∷ []) $ split ! $ move ! (4 ∷ []) $ fsplit ! $ move ! (1 ∷ []) $ fsplit ! $ move ! (1 ∷ []) $ fsplit ! $
         move ! (1 ∷ []) $ fsplit ! $ move ! (1 ∷ []) $
         rewrite ! 0 (λ (P : Fml). ‵ P) (owns-taken 3 (first 2) κs xs (a .1 .1 .1 .1)) refl $ move ! (3 ∷ 2 ∷ []) $ join ! $ move ! (6 ∷ 4 ∷ []) $ join ! $
@@ -181,21 +181,21 @@ module _ (N : ℕ) (xs : List Extra) where
     pub exits : (g : Buffers) (κs : Lfts (lending g)) (qs : Shares (lending g)) (a : Args (ended g .signature) κs) (vss : Machine (ended g .signature) κs) (new : Lists g) (P : SProp 𝓤)
         → (Fit (ended g) (stayed g) κs a (last g κs a new) → ent 𝓤 (onExit 𝓤 H A (ended g) (stayed g) κs qs vss vunit tt a (last g κs a new)) P)
         → ent 𝓤 (⋆ 𝓤 H A (exit-items g κs qs a new)) P
-    exits none κs qs a vss new P ends =
-        qed W (exit-items none κs qs a new) ∵
-        suffices ! (onExit 𝓤 H A (ended none) (stayed none) κs qs vss vunit tt a (last none κs a new)) (ends (tt, (tt, lasting-fits 1 (first 0) κs xs (a .1 .1)))) $
+    exits no-buffers κs qs a vss new P ends =
+        qed W (exit-items no-buffers κs qs a new) ∵
+        suffices ! (onExit 𝓤 H A (ended no-buffers) (stayed no-buffers) κs qs vss vunit tt a (last no-buffers κs a new)) (ends (tt, (tt, lasting-fits 1 (first 0) κs xs (a .1 .1)))) $
         use0 W (‵ ftrue) (id⊢ 𝓤 _) $ move ! (1 ∷ 0 ∷ []) $ group ! 2 $ frame ! $
         feqI ! (List Val) (vunit ∷ []) (vunit ∷ []) refl $
-        use0 W (‵ (hasOf κs (slots 1 (first 0) xs) (keeps 1 (first 0) xs) (stays 1 (first 0) xs) (a .1 .1) (lasting 1 (first 0) κs xs (a .1 .1)) (vss .1 .1)))
+        use0 W (‵ (hasOf κs (trailing 1 (first 0) xs) (keeps 1 (first 0) xs) (stays 1 (first 0) xs) (a .1 .1) (lasting 1 (first 0) κs xs (a .1 .1)) (vss .1 .1)))
         (none-had 1 (first 0) κs 𝓤 H A W xs (a .1 .1) (vss .1 .1)) $
         use0 W (‵ ftrue) (id⊢ 𝓤 _) $ fjoin ! $ use0 W (‵ ftrue) (id⊢ 𝓤 _) $ fjoin ! $ keep ! (0 ∷ 1 ∷ []) $ done !
-    exits both κs qs a vss new P ends =
-        qed W (exit-items both κs qs a new) ∵
+    exits times-and-scratch κs qs a vss new P ends =
+        qed W (exit-items times-and-scratch κs qs a new) ∵
         move ! (2 ∷ []) $ split ! $ fsplit ! $ move ! (1 ∷ []) $ feqL ! (λ len-t. move ! (1 ∷ []) $ fsplit ! $ move ! (1 ∷ []) $ feqL ! (λ len-s. move ! (3 ∷ []) $ split ! $
-        suffices ! (onExit 𝓤 H A (ended both) (stayed both) κs qs vss vunit tt a (last both κs a new))
+        suffices ! (onExit 𝓤 H A (ended times-and-scratch) (stayed times-and-scratch) κs qs vss vunit tt a (last times-and-scratch κs a new))
         (ends (tt, (len-t, (len-s, (tt, lasting-fits 3 (first 2) κs xs (a .1 .1 .1 .1)))))) $
         use0 W (‵ ftrue) (id⊢ 𝓤 _) $ move ! (5 ∷ 1 ∷ 2 ∷ 0 ∷ []) $ group ! 4 $ frame ! $
-        use0 W (‵ (hasOf κs (slots 3 (first 2) xs) (keeps 3 (first 2) xs) (stays 3 (first 2) xs) (a .1 .1 .1 .1) (lasting 3 (first 2) κs xs (a .1 .1 .1 .1))
+        use0 W (‵ (hasOf κs (trailing 3 (first 2) xs) (keeps 3 (first 2) xs) (stays 3 (first 2) xs) (a .1 .1 .1 .1) (lasting 3 (first 2) κs xs (a .1 .1 .1 .1))
         (vss .1 .1 .1 .1))) (none-had 3 (first 2) κs 𝓤 H A W xs (a .1 .1 .1 .1) (vss .1 .1 .1 .1)) $
         use0 W (‵ ftrue) (id⊢ 𝓤 _) $ fjoin ! $ move ! (1 ∷ 0 ∷ []) $ fjoin ! $ move ! (1 ∷ 0 ∷ []) $ fjoin ! $ use0 W (‵ ftrue) (id⊢ 𝓤 _) $ fjoin ! $
         feqI ! (List Val) (vunit ∷ []) (vunit ∷ []) refl $ move ! (1 ∷ 0 ∷ []) $ done !))

@@ -17,10 +17,10 @@ use Rattle.one_pass.proofs.Sums.{system-ascending}
 use Rattle.checks.proofs.Accepted.{make-up-taken}
 use Rattle.answers.specs.declared.MadeUp.{MadeUp}
 use Rattle.answers.specs.declared.MadeUp.the-variants.{Parts, Spent, Refused}
-use Rattle.answers.specs.Refusals.{makeUpRefusal}
+use Rattle.checks.specs.CallRefusals.{makeUpRefusal}
 use Rattle.answers.specs.Answers.{system}
 use Rattle.answers.specs.MakeUp.{madeUpBy, makeUpAnswer}
-use Rattle.promises.specs.MakeUp.{MadeUpOf}
+use Rattle.answers.specs.MakeUp.{MadeUpOf}
 use Rattle.input.specs.Input.{wordsIn, inputRefusal}
 use Rattle.input.specs.Argument.{numberIn}
 use Rattle.answer_page.specs.AnswerPage.{badLine}

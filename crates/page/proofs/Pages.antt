@@ -10,7 +10,7 @@ use Rattle.board.specs.Sound.{Sound}
 use Rattle.refusals.specs.declared.Verdict.{Verdict}
 use Rattle.refusals.specs.declared.Verdict.the-variants.{Passed, Refused as Verdict·Refused}
 use Rattle.checks.proofs.Accepted.{analyse-taken}
-use Rattle.answers.specs.Refusals.{analyseRefusal}
+use Rattle.checks.specs.CallRefusals.{analyseRefusal}
 use Rattle.answers.specs.Answers.{answerBy, analyseAnswer, timesAfter}
 use Rattle.answers.specs.declared.Answer.{Answer}
 use Rattle.answers.specs.declared.Answer.the-variants.{Times, Late, Spent, Refused}

@@ -12,18 +12,13 @@ use Rattle.refusals.specs.declared.Verdict.{Verdict}
 use Rattle.refusals.specs.declared.Verdict.the-variants.{Passed, Refused}
 use Rattle.figures.specs.Survey.{Held}
 use Rattle.figures.proofs.Fillable.{fillable-tasks, fillable-none}
-use Rattle.scratch.specs.Scratch.{Room, Prepared}
+use Rattle.scratch.specs.Scratch.{Prepared}
 use Rattle.answers.specs.Answers.{ScratchAfter}
 use Rattle.settle.specs.Begun.{Begun}
 use Rattle.answers.proofs.Outcomes.{tasks-records, none-records}
 
--- a refusal is no pass
-abbrev passes : Verdict → ℕ
-passes Passed = 1
-passes (Refused number place) = 0
-
 pub refused-not-passed : {number place : ℕ} → Refused number place ≡ Passed → ⊥
-refused-not-passed e = let none : _≡_ {A = ℕ} 0 1 = ap passes e in omega arith
+refused-not-passed e = let z : _≡_ {A = ℕ} 0 1 = cc in omega arith
 
 -- the figures are held by a copy of the first 4n words
 held-copied : {b : List ℕ} {n : ℕ} {from to sets : List ℕ} (old : List ℕ) → 4 * n ≤ length old → to ≡ fillTo (λ k. getD from k 0) (4 * n) old
@@ -48,7 +43,7 @@ module _ {b : List ℕ} {v : Verdict} {old : List ℕ} where
       record {
         count = tasks-records b e all;
         fillable = fillable-tasks (made .0 .room .sound) all (omega (arith, few, size, room)) (held-copied free (omega arith) copied (made .2));
-        after = subst (λ (w : Verdict). ScratchAfter w old new) (sym e) (made .1);
+        scratchLeft = subst (λ (w : Verdict). ScratchAfter w old new) (sym e) (made .1);
         ready = λ _. subst (λ (m : ℕ). Prepared b m new) all (made .0);
       }
 
@@ -57,6 +52,6 @@ module _ {b : List ℕ} {v : Verdict} {old : List ℕ} where
       record {
         count = none-records b e;
         fillable = fillable-none;
-        after = subst (λ (w : Verdict). ScratchAfter w old old) (sym e) refl;
+        scratchLeft = subst (λ (w : Verdict). ScratchAfter w old old) (sym e) refl;
         ready = λ passed. absurd (refused-not-passed (sym e ∙ passed));
       }

@@ -18,7 +18,7 @@ use Rattle.answers.specs.declared.Answer.the-variants.{Times, Late, Spent, Refu
 use Rattle.answers.specs.Answers.{system, answerFor, timesLeft, ScratchAfter}
 use Rattle.answers.specs.Concluded.{Concluded}
 use Rattle.answers.proofs.Outcomes.{room-for}
-use Rattle.promises.proofs.Demand.{settled-demand3, times-same}
+use Rattle.answers.proofs.Demand.{settled-demand3, times-same}
 use Rattle.settle.specs.Begun.{Begun}
 use Rattle.settle.specs.Settled.{AtSettled, WhereSettled, Settled}
 use Rattle.settle.proofs.Begun.{refused-not-passed}
@@ -54,7 +54,7 @@ module _ {b times scratch : List ℕ} {step : List ℕ → List ℕ} {v : Verdic
     fillable = begun .fillable;
     answer = ap (λ (w : Verdict). answerFor w b step) (sym e);
     given = refl;
-    after = begun .after;
+    scratchLeft = begun .scratchLeft;
     demand3 = λ passed. absurd (refused-not-passed (sym e ∙ passed));
     ready = tt;
   }
@@ -66,7 +66,7 @@ module _ {b times scratch : List ℕ} {step : List ℕ → List ℕ} {v : Verdic
     fillable = begun .fillable;
     answer = done .answer ∙ ap (λ (w : Verdict). answerFor w b step) (sym e);
     given = done .given ∙ times-same b times up r;
-    after = subst (λ (w : Verdict). ScratchAfter w scratch scratch') (sym e) (done .size ∙ subst (λ (w : Verdict). ScratchAfter w scratch mid) e (begun .after));
+    scratchLeft = subst (λ (w : Verdict). ScratchAfter w scratch scratch') (sym e) (done .size ∙ subst (λ (w : Verdict). ScratchAfter w scratch mid) e (begun .scratchLeft));
     demand3 = λ _. rw (done .given, done .answer) (settled-demand3 b times up room);
     ready = where-not-spent r (λ other. record { prepared = subst (λ (k : ℕ). Prepared b k scratch') all (ran .1); times = done .settled other ∙ settled-same up (system-ascending b) });
   }

@@ -13,5 +13,5 @@ use Rattle.answers.specs.Records.{recordsOf}
 pub record Begun (Ready : List ℕ → Type 0) (b : List ℕ) (v : Verdict) (n : ℕ) (old scratch words sets : List ℕ) : Type 0 where
   pub count : n ≡ recordsOf v b
   pub fillable : Fillable b n words sets
-  pub after : ScratchAfter v old scratch
+  pub scratchLeft : ScratchAfter v old scratch
   pub ready : v ≡ Passed → Ready scratch

@@ -14,7 +14,7 @@ use Rattle.answers.specs.declared.Answer.{Answer}
 use Rattle.answers.specs.declared.Answer.the-variants.{Times, Late, Spent, Refused}
 use Rattle.answers.specs.Answers.{system, answerFor, timesAfter, ScratchAfter}
 use Rattle.answers.specs.Records.{recordsOf}
-use Rattle.promises.specs.Demand.{Demand3By}
+use Rattle.answers.specs.Demand.{Demand3By}
 
 -- a scratch that begins with the settled times, with the figures after them
 pub record AtSettled (b scratch : List ℕ) : Type 0 where
@@ -34,6 +34,6 @@ pub record Settled (step : List ℕ → List ℕ) (v : Verdict) (b times scratch
   pub fillable : Fillable b n words sets
   pub answer : r ≡ answerFor v b step
   pub given : times' ≡ timesAfter b r times
-  pub after : ScratchAfter v scratch scratch'
+  pub scratchLeft : ScratchAfter v scratch scratch'
   pub demand3 : v ≡ Passed → Demand3By (system b) step (passLimit b) r times'
   pub ready : WhereSettled r (AtSettled b scratch')

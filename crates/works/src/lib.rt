@@ -1,5 +1,7 @@
 // All that each call does but for its table, which has room for so many records: its checks, what it does by their verdict, and its last step. Counted are the
 // records to fill, from the words and the sets: none where it is refused.
+mod reasons;
+
 use answers::Answer;
 use answers::MadeUp;
 use answers::Outcome;
@@ -16,12 +18,12 @@ use settle::settle_in_order;
 ghost use mathlib.Core.Path.{_≡_};
 ghost use Prim.Native.Nat.{_≤_};
 ghost use lib.ListN.{length};
-ghost use Rattle.answers.specs.Refusals.{figuresRefusal, analyseRefusal, inOrderRefusal, makeUpRefusal};
+ghost use Rattle.checks.specs.CallRefusals.{figuresRefusal, analyseRefusal, inOrderRefusal, makeUpRefusal};
 ghost use Rattle.answers.specs.Answers.{figuresAnswer};
-ghost use Rattle.answers.specs.Records.{Counted};
-ghost use Rattle.promises.specs.Demand.{Analysed};
-ghost use Rattle.promises.specs.InOrder.{AnalysedInOrder};
-ghost use Rattle.promises.specs.MakeUp.{MadeUpAll};
+ghost use Rattle.answers.specs.Records.{RecordsToFill};
+ghost use Rattle.answers.specs.Demand.{Analysed};
+ghost use Rattle.answers.specs.InOrder.{AnalysedInOrder};
+ghost use Rattle.answers.specs.MakeUp.{MadeUpAll};
 
 pub fn analyse(
     board: &[u32],
@@ -33,7 +35,7 @@ pub fn analyse(
     sets: &mut [u64; ECB_WORDS],
 ) -> Answer
     requires { ⌜ 256 ≤ length (now words) ⌝ }
-    ensures { λ r. ⌜ Counted (analyseRefusal (now (board .entry)) (length (now (times .entry))) (length (now (scratch .entry))) room)
+    ensures { λ r. ⌜ RecordsToFill (analyseRefusal (now (board .entry)) (length (now (times .entry))) (length (now (scratch .entry))) room)
         (now (board .entry)) room (now (records .exit)) (now (words .exit)) (now (sets .exit))
         × Analysed (now (board .entry)) (now (times .entry)) (now (scratch .entry)) room r (now (times .exit)) (now (scratch .exit)) ⌝ }
 {
@@ -52,7 +54,7 @@ pub fn analyse_in_order<'a>(
     order: &'a [u32],
 ) -> Answer
     requires { ⌜ 256 ≤ length (now words) ⌝ }
-    ensures { λ r. ⌜ Counted (inOrderRefusal (now (board .entry)) (length (now (times .entry))) (length (now (scratch .entry))) room (now (order .entry)))
+    ensures { λ r. ⌜ RecordsToFill (inOrderRefusal (now (board .entry)) (length (now (times .entry))) (length (now (scratch .entry))) room (now (order .entry)))
         (now (board .entry)) room (now (records .exit)) (now (words .exit)) (now (sets .exit))
         × AnalysedInOrder (now (board .entry)) (now (times .entry)) (now (scratch .entry)) room (now (order .entry)) r (now (times .exit)) (now (scratch .exit)) ⌝ }
 {
@@ -71,7 +73,7 @@ pub fn make_up(
     task: usize,
 ) -> MadeUp
     requires { ⌜ 256 ≤ length (now words) ⌝ }
-    ensures { λ r. ⌜ Counted (makeUpRefusal (now (board .entry)) (length (now (times .entry))) (length (now (scratch .entry))) room task)
+    ensures { λ r. ⌜ RecordsToFill (makeUpRefusal (now (board .entry)) (length (now (times .entry))) (length (now (scratch .entry))) room task)
         (now (board .entry)) room (now (records .exit)) (now (words .exit)) (now (sets .exit))
         × MadeUpAll (now (board .entry)) (now (times .entry)) (now (scratch .entry)) room task r (now (times .exit)) (now (scratch .exit)) ⌝ }
 {
@@ -88,7 +90,7 @@ pub fn figures(
     sets: &mut [u64; ECB_WORDS],
 ) -> Outcome
     requires { ⌜ 256 ≤ length (now words) ⌝ }
-    ensures { λ r. ⌜ (Counted (figuresRefusal (now (board .entry)) room)
+    ensures { λ r. ⌜ (RecordsToFill (figuresRefusal (now (board .entry)) room)
         (now (board .entry)) room (now (records .exit)) (now (words .exit)) (now (sets .exit)))
         × (r ≡ figuresAnswer (now (board .entry)) room) ⌝ }
 {

@@ -12,8 +12,8 @@ use Rattle.table.proofs.fill.Symbol as fill-def
 use Rattle.table.proofs.fill.Symbol.{name as #table·fill}
 use Rattle.table.proofs.fill.Met as fill-thm
 use Rattle.refusals.specs.declared.Verdict.{Verdict}
-use Rattle.answers.specs.Refusals.{analyseRefusal}
-use Rattle.promises.specs.Demand.{Analysed}
+use Rattle.checks.specs.CallRefusals.{analyseRefusal}
+use Rattle.answers.specs.Demand.{Analysed}
 use Rattle.answers.specs.declared.Answer.{Answer}
 use Rattle.answers.proofs.Answer as S
 use Rattle.answers.proofs.Answer.Laws as S′
@@ -22,8 +22,7 @@ use Rattle.works.proofs.analyse.Symbol.{name as #works·analyse}
 use Rattle.works.proofs.analyse.Met as work-thm
 use Rattle.calls.proofs.Steps.{holds, both}
 use Rattle.calls.proofs.Extras.{Values}
-use Rattle.calls.proofs.Buffers.{Lists}
-use Rattle.calls.proofs.Buffers.{both as times-and-scratch}
+use Rattle.calls.proofs.Buffers.{Lists, times-and-scratch}
 use Rattle.calls.proofs.Filling.{Fills}
 use Rattle.calls.proofs.Walk.{LongWords, Nothing, long-words, opens-nothing, Works, meets}
 use Rattle.calls.proofs.analyse.Key.{name as #calls·analyse}

@@ -14,8 +14,8 @@ use Rattle.table.proofs.fill.Symbol as fill-def
 use Rattle.table.proofs.fill.Symbol.{name as #table·fill}
 use Rattle.table.proofs.fill.Met as fill-thm
 use Rattle.refusals.specs.declared.Verdict.{Verdict}
-use Rattle.answers.specs.Refusals.{inOrderRefusal}
-use Rattle.promises.specs.InOrder.{AnalysedInOrder}
+use Rattle.checks.specs.CallRefusals.{inOrderRefusal}
+use Rattle.answers.specs.InOrder.{AnalysedInOrder}
 use Rattle.answers.specs.declared.Answer.{Answer}
 use Rattle.answers.proofs.Answer as S
 use Rattle.answers.proofs.Answer.Laws as S′
@@ -24,8 +24,7 @@ use Rattle.works.proofs.analyse_in_order.Symbol.{name as #works·analyse-in-ord
 use Rattle.works.proofs.analyse_in_order.Met as work-thm
 use Rattle.calls.proofs.Steps.{holds, both}
 use Rattle.calls.proofs.Extras.{Extra, Values, words}
-use Rattle.calls.proofs.Buffers.{Lists}
-use Rattle.calls.proofs.Buffers.{both as times-and-scratch}
+use Rattle.calls.proofs.Buffers.{Lists, times-and-scratch}
 use Rattle.calls.proofs.Filling.{Fills}
 use Rattle.calls.proofs.Walk.{LongWords, Nothing, long-words, opens-nothing, Works, meets}
 use Rattle.calls.proofs.analyse_in_order.Key.{name as #calls·analyse-in-order}

@@ -12,8 +12,8 @@ use Rattle.table.proofs.fill.Symbol as fill-def
 use Rattle.table.proofs.fill.Symbol.{name as #table·fill}
 use Rattle.table.proofs.fill.Met as fill-thm
 use Rattle.refusals.specs.declared.Verdict.{Verdict}
-use Rattle.answers.specs.Refusals.{makeUpRefusal}
-use Rattle.promises.specs.MakeUp.{MadeUpAll}
+use Rattle.checks.specs.CallRefusals.{makeUpRefusal}
+use Rattle.answers.specs.MakeUp.{MadeUpAll}
 use Rattle.answers.specs.declared.MadeUp.{MadeUp}
 use Rattle.answers.proofs.MadeUp as S
 use Rattle.answers.proofs.MadeUp.Laws as S′
@@ -22,8 +22,7 @@ use Rattle.works.proofs.make_up.Symbol.{name as #works·make-up}
 use Rattle.works.proofs.make_up.Met as work-thm
 use Rattle.calls.proofs.Steps.{holds, both}
 use Rattle.calls.proofs.Extras.{Extra, Values, number}
-use Rattle.calls.proofs.Buffers.{Lists}
-use Rattle.calls.proofs.Buffers.{both as times-and-scratch}
+use Rattle.calls.proofs.Buffers.{Lists, times-and-scratch}
 use Rattle.calls.proofs.Filling.{Fills}
 use Rattle.calls.proofs.Walk.{LongWords, Nothing, long-words, opens-nothing, Works, meets}
 use Rattle.calls.proofs.make_up.Key.{name as #calls·make-up}

@@ -4,7 +4,7 @@ use mathlib.Core.Path.{_≡_, sym, _∙_}
 use borrow.Author.Needs.{needs}
 use Rattle.refusals.specs.declared.Verdict.the-variants.{Passed}
 use Rattle.checks.proofs.Accepted.{overhead-taken}
-use Rattle.answers.specs.Refusals.{overheadRefusal}
+use Rattle.checks.specs.CallRefusals.{overheadRefusal}
 use Rattle.answers.specs.Answers.{overheadAnswer}
 use Rattle.answers.proofs.Outcomes.{outcome-value, outcome-refused}
 use Rattle.calls.proofs.overhead.Statement.{statement}

@@ -4,7 +4,7 @@ use mathlib.Core.Path.{_≡_, sym, _∙_}
 use borrow.Author.Needs.{needs}
 use Rattle.refusals.specs.declared.Verdict.the-variants.{Passed}
 use Rattle.checks.proofs.Accepted.{weigh-taken}
-use Rattle.answers.specs.Refusals.{weighRefusal}
+use Rattle.checks.specs.CallRefusals.{weighRefusal}
 use Rattle.answers.specs.Answers.{weighAnswer}
 use Rattle.answers.proofs.Outcomes.{outcome-value, outcome-refused}
 use Rattle.calls.proofs.weigh.Statement.{statement}

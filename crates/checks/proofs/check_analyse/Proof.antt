@@ -2,7 +2,7 @@
 -- Assumes nothing.
 use Prim.Native.Nat.{ℕ}
 use borrow.Author.Needs.{needs}
-use Rattle.checks.specs.Refusals.{bufferRows, analyseRefusal}
+use Rattle.checks.specs.CallRefusals.{bufferRows, analyseRefusal}
 use Rattle.checks.proofs.Checks.{board-then}
 use Rattle.checks.proofs.check_analyse.Statement.{statement}
 use Rattle.checks.proofs.check_analyse.Tie as tie

@@ -2,7 +2,7 @@
 -- Assumes nothing.
 use Prim.Native.Nat.{ℕ}
 use borrow.Author.Needs.{needs}
-use Rattle.checks.specs.Refusals.{tableRow, figuresRefusal}
+use Rattle.checks.specs.CallRefusals.{tableRow, figuresRefusal}
 use Rattle.checks.proofs.Checks.{board-then}
 use Rattle.checks.proofs.check_figures.Statement.{statement}
 use Rattle.checks.proofs.check_figures.Tie as tie

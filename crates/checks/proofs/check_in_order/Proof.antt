@@ -3,7 +3,7 @@
 use Prim.Native.Nat.{ℕ}
 use borrow.Author.Needs.{needs}
 use Rattle.refusals.specs.Refusals.{_orElse_}
-use Rattle.checks.specs.Refusals.{bufferRows, orderRow, inOrderRefusal}
+use Rattle.checks.specs.CallRefusals.{bufferRows, orderRow, inOrderRefusal}
 use Rattle.checks.proofs.Checks.{row-then, board-then}
 use Rattle.checks.proofs.check_in_order.Statement.{statement}
 use Rattle.checks.proofs.check_in_order.Tie as tie

@@ -3,7 +3,7 @@
 use Prim.Native.Nat.{ℕ}
 use borrow.Author.Needs.{needs}
 use Rattle.refusals.specs.Refusals.{_orElse_}
-use Rattle.checks.specs.Refusals.{taskRow, overheadRefusal}
+use Rattle.checks.specs.CallRefusals.{taskRow, overheadRefusal}
 use Rattle.checks.proofs.Checks.{row-then, board-then}
 use Rattle.checks.proofs.check_overhead.Statement.{statement}
 use Rattle.checks.proofs.check_overhead.Tie as tie

@@ -7,7 +7,7 @@ use borrow.Author.Needs.{needs}
 use borrow.Author.Tests.{leb-true}
 use Rattle.refusals.specs.Refusals.{_orElse_}
 use Rattle.refusals.proofs.Verdicts.{refuseUnless-passed}
-use Rattle.checks.specs.Refusals.{taskRow, timesRow, timeRow, weighRefusal}
+use Rattle.checks.specs.CallRefusals.{taskRow, timesRow, timeRow, weighRefusal}
 use Rattle.checks.proofs.Checks.{row-then, board-then}
 use Rattle.checks.proofs.check_weigh.Statement.{statement}
 use Rattle.checks.proofs.check_weigh.Tie as tie

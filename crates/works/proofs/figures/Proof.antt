@@ -9,7 +9,7 @@ use Rattle.refusals.specs.declared.Verdict.the-variants.{Passed}
 use Rattle.figures.proofs.Fillable.{fillable-tasks, fillable-none, held-tasks}
 use Rattle.checks.specs.Accepted.{FiguresTaken}
 use Rattle.checks.proofs.Accepted.{figures-taken}
-use Rattle.answers.specs.Refusals.{figuresRefusal}
+use Rattle.checks.specs.CallRefusals.{figuresRefusal}
 use Rattle.answers.specs.Answers.{figuresAnswer}
 use Rattle.answers.proofs.Outcomes.{outcome-value, outcome-refused, tasks-records, none-records}
 use Rattle.works.proofs.figures.Statement.{statement}

@@ -15,7 +15,7 @@ use Rattle.refusals.specs.Refusals.{firstBad}
 use Rattle.refusals.proofs.Searches.{firstBad-pass, firstBad-stop, firstBad-end}
 use Rattle.refusals.proofs.Sound.{within-true}
 use Rattle.bitset.specs.Bits.{bit}
-use Rattle.checks.specs.Refusals.{namedBefore, numberOk}
+use Rattle.checks.specs.CallRefusals.{namedBefore, numberOk}
 use Rattle.checks.proofs.Seen.{seenTo, seen-none, seen-has, seen-next}
 use Rattle.checks.proofs.order.first_misnamed.Statement.{statement}
 use Rattle.checks.proofs.order.first_misnamed.Tie as tie

@@ -10,7 +10,7 @@ use Rattle.sums.specs.Sums.{bound}
 use Rattle.refusals.specs.Refusals.{firstBad}
 use Rattle.refusals.proofs.Searches.{firstBad-pass, firstBad-stop, firstBad-end}
 use Rattle.refusals.proofs.Sound.{sound}
-use Rattle.checks.specs.Refusals.{timeOk}
+use Rattle.checks.specs.CallRefusals.{timeOk}
 use Rattle.checks.proofs.rows.first_over.Statement.{statement}
 use Rattle.checks.proofs.rows.first_over.Tie as tie
 

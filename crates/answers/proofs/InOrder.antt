@@ -15,14 +15,13 @@ use Rattle.passes.specs.Passes.{System, pass, passesBy, passesNeeded, settled, 
 use Rattle.passes.specs.Visits.{inOrder, Permutation}
 use Rattle.passes.proofs.InOrder.{inOrder-settled, inOrder-passes}
 use Rattle.one_pass.proofs.Sums.{system-mono}
-use Rattle.checks.specs.Refusals.{orderRow}
+use Rattle.checks.specs.CallRefusals.{orderRow, analyseRefusal, inOrderRefusal}
 use Rattle.checks.proofs.Accepted.{inOrderRefusal-is, in-order-taken}
 use Rattle.answers.specs.declared.Answer.{Answer}
 use Rattle.answers.specs.declared.Answer.the-variants.{Times, Late, Spent}
-use Rattle.answers.specs.Refusals.{analyseRefusal, inOrderRefusal}
 use Rattle.answers.specs.Answers.{system, settledAnswer, analyseAnswer, inOrderAnswer}
-use Rattle.promises.specs.InOrder.{withPasses, LikeAnalyse}
-use Rattle.promises.proofs.Demand.{analyse-settled}
+use Rattle.answers.specs.InOrder.{withPasses, LikeAnalyse}
+use Rattle.answers.proofs.Demand.{analyse-settled}
 
 module _ (S : System) (mono : Monotone S) {order : List ℕ} (permuted : Permutation (S .count) order) where
   -- within Analyse's passes: its answer, but for the passes

@@ -25,16 +25,15 @@ use Rattle.interference.specs.declared.SumParts.{SumParts}
 use Rattle.interference.specs.Parts.{sumParts, listed}
 use Rattle.interference.proofs.Parts.{listed-parts, sumParts-add}
 use Rattle.checks.proofs.Accepted.{make-up-passed}
 use Rattle.answers.specs.declared.Answer.{Answer}
 use Rattle.answers.specs.declared.Answer.the-variants.{Times, Late}
 use Rattle.answers.specs.declared.MadeUp.{MadeUp}
 use Rattle.answers.specs.declared.MadeUp.the-variants.{Parts, Spent}
-use Rattle.answers.specs.Refusals.{makeUpRefusal, analyseRefusal}
+use Rattle.checks.specs.CallRefusals.{makeUpRefusal, analyseRefusal}
 use Rattle.answers.specs.Answers.{system, answerBy, analyseAnswer, timesLeft, timesAfter}
-use Rattle.answers.specs.MakeUp.{madeUpAt, settledMadeUp, makeUpAnswer}
-use Rattle.promises.specs.Demand.{Demand3}
-use Rattle.promises.specs.MakeUp.{MadeUpOf}
-use Rattle.promises.proofs.Demand.{times-room, analyse-settled, demand3-met}
+use Rattle.answers.specs.MakeUp.{madeUpAt, settledMadeUp, makeUpAnswer, MadeUpOf}
+use Rattle.answers.specs.Demand.{Demand3}
+use Rattle.answers.proofs.Demand.{times-room, analyse-settled, demand3-met}
 
 -- ---- task i of a board, at the settled times
 

@@ -8,10 +8,10 @@ use lib.ListN.{length, take}
 use Rattle.board.specs.Layout.{passLimit}
 use Rattle.refusals.specs.declared.Verdict.the-variants.{Passed}
 use Rattle.passes.specs.Passes.{System, pass, passesBy, Choice, NoChoice, LeastChoice, SmallestLate}
 use Rattle.answers.specs.declared.Answer.{Answer}
 use Rattle.answers.specs.declared.Answer.the-variants.{Times, Late, Spent}
-use Rattle.answers.specs.Refusals.{analyseRefusal}
+use Rattle.checks.specs.CallRefusals.{analyseRefusal}
 use Rattle.answers.specs.Answers.{system, analyseAnswer, timesAfter, ScratchAfter}
 
 -- the answer is late, whatever task and passes it names
 abbrev pub AnswersLate : Answer → Type 0
@@ -39,5 +39,5 @@ Demand3 S limit r times = Demand3By S (pass S) limit r times
 pub record Analysed (b times scratch : List ℕ) (room : ℕ) (r : Answer) (times' scratch' : List ℕ) : Type 0 where
   pub answer : r ≡ analyseAnswer b (length times) (length scratch) room
   pub given : times' ≡ timesAfter b r times
-  pub after : ScratchAfter (analyseRefusal b (length times) (length scratch) room) scratch scratch'
+  pub scratchLeft : ScratchAfter (analyseRefusal b (length times) (length scratch) room) scratch scratch'
   pub demand3 : analyseRefusal b (length times) (length scratch) room ≡ Passed → Demand3 (system b) (passLimit b) r times'

@@ -1,6 +1,6 @@
--- `reasons::parts_at` meets its contract.
+-- `works::reasons::parts_at` meets its contract.
 -- Assumes nothing.
-use mathlib.Core.Path.{_≡_, sym, ap, ap₂, subst, _∙_}
+use mathlib.Core.Path.{_≡_, sym, ap, ap₂, _∙_}
 use mathlib.Core.List.{List}
 use Prim.Native.Nat.{ℕ}
 use native.Mathlib.Omega.{arith}
@@ -9,18 +9,16 @@ use lib.Seq.{length-take-le}
 use borrow.Author.Needs.{needs}
 use Rattle.board.specs.Layout.{tasks}
 use Rattle.sums.specs.SixParts.{reason}
-use Rattle.sums.specs.Inputs.{CappedTimes}
 use Rattle.passes.specs.Passes.{settled}
 use Rattle.interference.specs.declared.SumParts.{SumParts}
 use Rattle.interference.specs.Parts.{listed}
 use Rattle.interference.proofs.Parts.{listed-parts}
-use Rattle.answers.specs.declared.MadeUp.{MadeUp}
 use Rattle.answers.specs.declared.MadeUp.the-variants.{Parts}
 use Rattle.answers.specs.Answers.{system}
 use Rattle.answers.specs.MakeUp.{madeUpAt}
-use Rattle.reasons.proofs.MadeUp.{settled-caps}
-use Rattle.reasons.proofs.parts_at.Statement.{statement}
-use Rattle.reasons.proofs.parts_at.Tie as tie
+use Rattle.works.proofs.MadeUp.{settled-caps}
+use Rattle.works.proofs.reasons.parts_at.Statement.{statement}
+use Rattle.works.proofs.reasons.parts_at.Tie as tie
 
 abbrev start-of : tie.After-index → tie.Start
 start-of i = i .before .before .before .before

@@ -14,12 +14,12 @@ ghost use Rattle.interference.specs.Parts.{listed};
 ghost use Rattle.answers.specs.Answers.{system};
 ghost use Rattle.answers.specs.MakeUp.{madeUpAt};
 ghost use Rattle.settle.specs.Settled.{AtSettled, WhereSettled};
-ghost use Rattle.reasons.specs.MadeUp.{madeUpOf};
+ghost use Rattle.works.specs.MadeUp.{madeUpFrom};
 
 // What `make_up` answers of a task's number, by the answer that its board's passes gave.
 pub fn made_up(board: &[u32], answer: Answer, scratch: &[u32], task: usize) -> MadeUp
     requires { ⌜ WhereSettled answer (AtSettled (now board) (now scratch) × Between 1 (tasks (now board)) task) ⌝ }
-    ensures { λ r. ⌜ r ≡ madeUpOf answer (now (board .entry)) (task - 1) ⌝ }
+    ensures { λ r. ⌜ r ≡ madeUpFrom answer (now (board .entry)) (task - 1) ⌝ }
 {
     match answer {
         Answer::Times(_) => parts_at(board, scratch, task - 1),

@@ -1,4 +1,4 @@
--- `reasons::made_up` meets its contract.
+-- `works::reasons::made_up` meets its contract.
 -- Assumes nothing.
 use mathlib.Core.Path.{sym, ap, subst, _∙_}
 use Prim.Native.Nat.{_-_}
@@ -8,9 +8,9 @@ use Rattle.board.specs.Layout.{tasks}
 use Rattle.board.specs.Sound.{Between}
 use Rattle.answers.specs.declared.Answer.{Answer}
 use Rattle.settle.specs.Settled.{AtSettled, WhereSettled}
-use Rattle.reasons.specs.MadeUp.{madeUpOf}
-use Rattle.reasons.proofs.made_up.Statement.{statement}
-use Rattle.reasons.proofs.made_up.Tie as tie
+use Rattle.works.specs.MadeUp.{madeUpFrom}
+use Rattle.works.proofs.reasons.made_up.Statement.{statement}
+use Rattle.works.proofs.reasons.made_up.Tie as tie
 
 -- of a board with times, and of a late one
 abbrev Known : tie.Start → Type 0
@@ -34,7 +34,7 @@ made-up-spec =
     (λ c κs. (late c .0, omega (arith, late c .1)))
     (λ c. search needs)
     (λ c. search needs)
-    (λ c. let a = c .before .before .before .before .before .args in c .parts-at .ensures ∙ ap (λ (r : Answer). madeUpOf r (a .board .now) (a .task - 1)) (sym (c .before .enum-told .given .1)))
-    (λ c. let a = c .before .before .before .before .before .args in c .parts-at2 .ensures ∙ ap (λ (r : Answer). madeUpOf r (a .board .now) (a .task - 1)) (sym (c .before .enum-told2 .given .1)))
-    (λ c. let a = c .before .before .before .before .args in ap (λ (r : Answer). madeUpOf r (a .board .now) (a .task - 1)) (sym (c .enum-told3 .given .1)))
-    (λ c. let a = c .before .before .before .before .before .args in ap (λ (r : Answer). madeUpOf r (a .board .now) (a .task - 1)) (sym (c .before .answer .given .1))))
+    (λ c. let a = c .before .before .before .before .before .args in c .parts-at .ensures ∙ ap (λ (r : Answer). madeUpFrom r (a .board .now) (a .task - 1)) (sym (c .before .enum-told .given .1)))
+    (λ c. let a = c .before .before .before .before .before .args in c .parts-at2 .ensures ∙ ap (λ (r : Answer). madeUpFrom r (a .board .now) (a .task - 1)) (sym (c .before .enum-told2 .given .1)))
+    (λ c. let a = c .before .before .before .before .args in ap (λ (r : Answer). madeUpFrom r (a .board .now) (a .task - 1)) (sym (c .enum-told3 .given .1)))
+    (λ c. let a = c .before .before .before .before .before .args in ap (λ (r : Answer). madeUpFrom r (a .board .now) (a .task - 1)) (sym (c .before .answer .given .1))))

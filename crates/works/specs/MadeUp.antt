@@ -10,8 +10,8 @@ use Rattle.answers.specs.declared.MadeUp.the-variants.{Spent as MadeUp·Spent, 
 use Rattle.answers.specs.Answers.{system}
 use Rattle.answers.specs.MakeUp.{madeUpAt}
 
-abbrev pub madeUpOf : Answer → List ℕ → ℕ → MadeUp
-madeUpOf (Times passes) b i = madeUpAt b (settled (system b)) i
-madeUpOf (Late task passes) b i = madeUpAt b (settled (system b)) i
-madeUpOf Spent b i = MadeUp·Spent
-madeUpOf (Refused number place) b i = MadeUp·Refused number place
+abbrev pub madeUpFrom : Answer → List ℕ → ℕ → MadeUp
+madeUpFrom (Times passes) b i = madeUpAt b (settled (system b)) i
+madeUpFrom (Late task passes) b i = madeUpAt b (settled (system b)) i
+madeUpFrom Spent b i = MadeUp·Spent
+madeUpFrom (Refused number place) b i = MadeUp·Refused number place

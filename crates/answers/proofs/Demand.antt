@@ -23,11 +23,11 @@ use Rattle.passes.proofs.Choices.{firstLate-no-choice, firstLate-none, firstLat
 use Rattle.passes.proofs.Orders.{settled-same}
 use Rattle.one_pass.proofs.Sums.{system-ascending}
 use Rattle.checks.proofs.Accepted.{analyse-taken}
 use Rattle.answers.specs.declared.Answer.{Answer}
 use Rattle.answers.specs.declared.Answer.the-variants.{Times, Late, Spent, Refused}
-use Rattle.answers.specs.Refusals.{analyseRefusal}
+use Rattle.checks.specs.CallRefusals.{analyseRefusal}
 use Rattle.answers.specs.Answers.{system, settledAnswer, answerBy, analyseAnswer, timesLeft, timesAfter}
-use Rattle.promises.specs.Demand.{Demand3By, Demand3}
+use Rattle.answers.specs.Demand.{Demand3By, Demand3}
 
 module _ {S : System} {step : List ℕ → List ℕ} (up : Ascending S step) where
   -- the three answers

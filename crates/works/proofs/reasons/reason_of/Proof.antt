@@ -1,4 +1,4 @@
--- `reasons::reason_of` meets its contract. The invariant: of the parts before k the one at `at` is the largest, and the earliest of equals.
+-- `works::reasons::reason_of` meets its contract. The invariant: of the parts before k the one at `at` is the largest, and the earliest of equals.
 -- Assumes nothing.
 use Prim.Native.Nat.{ℕ, _-_, _≤_}
 use mathlib.Core.List.{List}
@@ -12,8 +12,8 @@ use Rattle.folds.specs.Folds.{Largest}
 use Rattle.folds.proofs.Largest.{largest-one, largest-same, largest-next}
 use Rattle.sums.proofs.SixParts.{reason-is}
 use Rattle.interference.specs.Parts.{listed}
-use Rattle.reasons.proofs.reason_of.Statement.{statement}
-use Rattle.reasons.proofs.reason_of.Tie as tie
+use Rattle.works.proofs.reasons.reason_of.Statement.{statement}
+use Rattle.works.proofs.reasons.reason_of.Tie as tie
 
 abbrev Inv-loop : tie.InvT-loop
 Inv-loop all at₀ k₀ at k = (k ≤ 6) × Largest (λ j. getD all j 0) k at

@@ -8,11 +8,11 @@ use Rattle.board.specs.Layout.{passLimit}
 use Rattle.refusals.specs.declared.Verdict.the-variants.{Passed}
 use Rattle.passes.specs.Passes.{passesBy, settledBy, passesNeeded, settled}
 use Rattle.passes.specs.Visits.{inOrder}
 use Rattle.answers.specs.declared.Answer.{Answer}
 use Rattle.answers.specs.declared.Answer.the-variants.{Times, Late, Spent, Refused}
-use Rattle.answers.specs.Refusals.{inOrderRefusal}
+use Rattle.checks.specs.CallRefusals.{inOrderRefusal}
 use Rattle.answers.specs.Answers.{system, analyseAnswer, inOrderAnswer, timesAfter, ScratchAfter}
-use Rattle.promises.specs.Demand.{Demand3By}
+use Rattle.answers.specs.Demand.{Demand3By}
 
 -- an answer with another count of passes
 abbrev pub withPasses : ℕ → Answer → Answer
@@ -34,7 +34,7 @@ pub record LikeAnalyse (b : List ℕ) (times scratch table : ℕ) (step : List �
 pub record AnalysedInOrder (b times scratch : List ℕ) (room : ℕ) (order : List ℕ) (r : Answer) (times' scratch' : List ℕ) : Type 0 where
   pub answer : r ≡ inOrderAnswer b (length times) (length scratch) room order
   pub given : times' ≡ timesAfter b r times
-  pub after : ScratchAfter (inOrderRefusal b (length times) (length scratch) room order) scratch scratch'
+  pub scratchLeft : ScratchAfter (inOrderRefusal b (length times) (length scratch) room order) scratch scratch'
   pub demand3 : inOrderRefusal b (length times) (length scratch) room order ≡ Passed
       → Demand3By (system b) (inOrder (system b) order) (passLimit b) r times'
   pub like : inOrderRefusal b (length times) (length scratch) room order ≡ Passed

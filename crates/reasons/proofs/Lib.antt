@@ -1,2 +1,0 @@
--- Laws of what `make_up` answers.
-pub mod MadeUp
