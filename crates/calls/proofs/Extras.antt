@@ -1,7 +1,7 @@
 -- The parameters that a public call takes beside Analyse's buffers: any list of them, each plain data or a `&'a [T]` at the board's lifetime 'a. They
 -- stand last, in the call and in the covered function that it hands them on to, and are given up to it.
 --     Extra            one such parameter: its values, its MIR type, what it owns and its machine value
---     number, words    a `usize`, and a `&'a [T]` of numbers
+--     number, words, enum    a `usize`, a `&'a [T]` of numbers, and an enum by value
 --     trailing, ..     a list of them as the end of a signature: `Denote/Signature.antt`'s and `Denote/Triple/Walked.antt`'s lists, by recursion
 --     taken, passed    the values that a signature's arguments are, and back
 --     tys, machines    as locals of a walk (`Cells.antt`)
@@ -23,6 +23,9 @@ use contract.Lifetimes.{Lfts}
 use types.Kit.{Given, ‵, _$_, _∵_, !, qed, use0, fjoin, done}
 use denote.RattleType.{RattleType, Denots, Valss, flat, owns}
 use denote.Laws.{Is, Ises, Are, Tells, Tellss, Spells, valss}
+use denote.Enum.Declared.{Declared, shape, row}
+use denote.Enum.Enum.{Few, layout}
+use denote.Enum.Laws as EL
 use denote.Exit.{unchanged, yes}
 use denote.Plain.{UInt, uint-tells}
 use denote.Ref.{RefT, now}
@@ -70,6 +73,19 @@ words w = record {
   machine = λ x. sliceVal (x .ptr) (length (now x));
   tells = λ κ. shr-slice-tells (named 0) κ (UInt w);
   fits = λ κ x is. (tt, (tt, (record { fits = is .0 .1 .0 }, tt)));
+}
+
+-- an enum by value, of the laws that its generated files have of it
+abbrev pub enum : {M : Type 1} (𝓤 : URA M) (H : Heap 𝓤) (A : Atoms 𝓤) → Given 𝓤 H A → (T : Declared) → EL.Laws T → Few (shape T) → Extra
+enum 𝓤 H A W T L few = record {
+  Value = T .D;
+  mir = layout (shape T);
+  type = row T;
+  own = λ κ. row T .own;
+  coded = row T .coded;
+  machine = EL.val T L;
+  tells = λ κ. EL.tells T L;
+  fits = λ κ d is. EL.lawful T L 𝓤 H A W few .typed d _ is .0;
 }
 
 -- ---- a list of them
