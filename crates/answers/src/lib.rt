@@ -1,7 +1,11 @@
 // What the calls answer.
 pub mod taken;
 
+use board::MOST_TASKS;
 use interference::SumParts;
+
+// The words from which the records of the most tasks are filled: four a task.
+pub const MOST_FIGURE_WORDS: usize = 4 * MOST_TASKS;
 
 // What `analyse` answers: the passes; the late task and the passes; the limit spent; the number of the refusal and its place.
 pub enum Answer {

@@ -37,13 +37,13 @@ use Rattle.figures.specs.Survey.{ecbWords, Fillable}
 use Rattle.figures.proofs.Figure as T
 use Rattle.table.proofs.fill as fill
 use Rattle.answers.specs.Answers.{tableAfter}
-use Rattle.answers.specs.Records.{recordsOf}
+use Rattle.answers.specs.Records.{mostFigureWords, recordsOf}
 use Rattle.calls.proofs.Steps.{val, pointer}
 use Rattle.calls.proofs.Table.{records-table}
 
 -- the types of the words and of the sets
 abbrev pub Words : RattleType
-Words = Array u32 256
+Words = Array u32 mostFigureWords
 
 abbrev pub SetWords : RattleType
 SetWords = Array u64 ecbWords

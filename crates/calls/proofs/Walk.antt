@@ -1,7 +1,7 @@
 -- The proof of a public call that fills the figures table, once for every such call:
 --     fn f<'a>(board: &'a [u32], times: &mut [u32], scratch: &mut [u32], table: &mut [Figure], xs..) -> S {
 --         let mut n: usize = 0;
---         let mut words = [0u32; 256];
+--         let mut words = [0u32; MOST_FIGURE_WORDS];
 --         let mut sets = [0u64; ECB_WORDS];
 --         let answer = work(board, times, scratch, table.len(), &mut n, &mut words, &mut sets, xs..);
 --         fill(board, n, &words, &sets, table);
@@ -74,7 +74,7 @@ use Rattle.figures.proofs.Figure.Laws as T′
 use Rattle.table.proofs.fill as fill
 use Rattle.table.proofs.fill.Symbol.{name as #table·fill}
 use Rattle.answers.specs.Answers.{tableAfter}
-use Rattle.answers.specs.Records.{RecordsToFill}
+use Rattle.answers.specs.Records.{mostFigureWords, RecordsToFill}
 use Rattle.calls.proofs.Steps.{says-all, is-unit, val}
 use Rattle.calls.proofs.Loans.{local-in, local-out, zero-array, array-fits}
 use Rattle.calls.proofs.Cells.{listed, count, locals, operands, Fitting, env, alloc-all, pass-all, forget-all, free-all}
@@ -101,17 +101,17 @@ lent l x γ = record { ptr = (l, 0); name = γ; now = x }
 abbrev only-val : Width → List ℕ → Val
 only-val w ws = arrayVal (map (λ (k : ℕ). vint w k) ws)
 
-has-room : (ws : List ℕ) → length ws ≡ 256 → Room u32 (length ws)
+has-room : (ws : List ℕ) → length ws ≡ mostFigureWords → Room u32 (length ws)
 has-room ws len = subst (Room u32) (sym len) (lit< tt, lit< tt)
 
--- a call that asks nothing, and its `work`, which asks for 256 words
+-- a call that asks nothing, and its `work`, which asks for words for the figures of the most tasks
 abbrev pub LongWords : (g : Buffers) (xs : List Extra) → List ℕ → Handed g xs → Type 0
-LongWords g xs b h = 256 ≤ length (now (h .words))
+LongWords g xs b h = mostFigureWords ≤ length (now (h .words))
 
 abbrev pub Nothing : (g : Buffers) (xs : List Extra) → List ℕ → Lists g → ℕ → Values xs → Type 0
 Nothing g xs b old m e = Unit {0}
 
-pub long-words : (g : Buffers) (xs : List Extra) (b : List ℕ) (h : Handed g xs) → length (now (h .words)) ≡ 256 → Unit {0} → LongWords g xs b h
+pub long-words : (g : Buffers) (xs : List Extra) (b : List ℕ) (h : Handed g xs) → length (now (h .words)) ≡ mostFigureWords → Unit {0} → LongWords g xs b h
 long-words g xs b h long known = omega (arith, long)
 
 pub opens-nothing : {M : Type 1} (𝓤 : URA M) (P Q : SProp 𝓤) → (Unit {0} → ent 𝓤 P Q) → ent 𝓤 (sep 𝓤 P (emp 𝓤)) Q
@@ -150,12 +150,12 @@ module _ (S : RattleType) (g : Buffers) (xs : List Extra) (Refuse : List ℕ →
 
     abbrev lateTys : List Ty
     lateTys =
-        tyInt w64 ∷ tyRef erased mut (tyInt w64) ∷ tyRef erased mut (tyArray (tyInt w32) 256) ∷ sliceTy (tyRef erased mut (tyInt w32)) ∷ tyRef erased mut (tyArray (tyInt w64) ecbWords)
-        ∷ tyUnit ∷ tyRef erased imm (tyArray (tyInt w32) 256) ∷ sliceTy (tyRef erased imm (tyInt w32)) ∷ tyRef erased imm (tyArray (tyInt w64) ecbWords)
+        tyInt w64 ∷ tyRef erased mut (tyInt w64) ∷ tyRef erased mut (tyArray (tyInt w32) mostFigureWords) ∷ sliceTy (tyRef erased mut (tyInt w32)) ∷ tyRef erased mut (tyArray (tyInt w64) ecbWords)
+        ∷ tyUnit ∷ tyRef erased imm (tyArray (tyInt w32) mostFigureWords) ∷ sliceTy (tyRef erased imm (tyInt w32)) ∷ tyRef erased imm (tyArray (tyInt w64) ecbWords)
         ∷ tyRef erased mut (pointee (T.the-row .written)) ∷ sliceTy (tyRef erased mut (pointee (T.the-row .written))) ∷ []
 
     abbrev ownTys : List Ty
-    ownTys = tyInt w64 ∷ tyArray (tyInt w32) 256 ∷ tyArray (tyInt w64) ecbWords ∷ σ ∷ []
+    ownTys = tyInt w64 ∷ tyArray (tyInt w32) mostFigureWords ∷ tyArray (tyInt w64) ecbWords ∷ σ ∷ []
 
     -- the MIR
     abbrev function : Fn
@@ -164,22 +164,22 @@ module _ (S : RattleType) (g : Buffers) (xs : List Extra) (Refuse : List ℕ →
       outlives = [];
       params = count (paramTys g) + (count (tys xs) + 2);
       locals = local σ valueLocal ∷ local (sliceTy (tyRef (named 0) imm (tyInt w32))) valueLocal ∷ (locals (paramTys g) ++ (local tableTy valueLocal ∷ (locals (tys xs)
-          ++ (local (tyInt w64) memorySlot ∷ local (tyArray (tyInt w32) 256) memorySlot ∷ local (tyArray (tyInt w64) ecbWords) memorySlot ∷ local σ valueLocal ∷ (locals (tempTys g)
+          ++ (local (tyInt w64) memorySlot ∷ local (tyArray (tyInt w32) mostFigureWords) memorySlot ∷ local (tyArray (tyInt w64) ecbWords) memorySlot ∷ local σ valueLocal ∷ (locals (tempTys g)
           ++ locals lateTys)))));
       body = seq (assign (place (early-at 0) []) (rvOpd (int w64 0)))
-          (seq (assign (place (early-at 1) []) (repeat (int w32 0) 256))
+          (seq (assign (place (early-at 1) []) (repeat (int w32 0) mostFigureWords))
           (seq (assign (place (early-at 2) []) (repeat (int w64 0) ecbWords))
           (lendings (tys xs) ownTys g
           (seq (assign (place (late-at 0) []) (rvOpd (copy (place (count (paramTys g) + 2) (field 1 ∷ [])))))
           (seq (assign (place (late-at 1) []) (addrOf (place (early-at 0) [])))
           (seq (assign (place (late-at 2) []) (addrOf (place (early-at 1) [])))
-          (seq (assign (place (late-at 3) []) (aggregate (copy (place (late-at 2) []) ∷ int w64 256 ∷ [])))
+          (seq (assign (place (late-at 3) []) (aggregate (copy (place (late-at 2) []) ∷ int w64 mostFigureWords ∷ [])))
           (seq (assign (place (late-at 4) []) (addrOf (place (early-at 2) [])))
           (seq (call #work (copy (place 1 []) ∷ (lendOperands (tys xs) ownTys g ++ (copy (place (late-at 0) []) ∷ copy (place (late-at 1) []) ∷ copy (place (late-at 3) [])
           ∷ copy (place (late-at 4) []) ∷ operands (count (paramTys g) + 3) (tys xs)))) (place (early-at 3) []))
           (seq (assign (place (late-at 0) []) (rvOpd (copy (place (early-at 0) []))))
           (seq (assign (place (late-at 6) []) (addrOf (place (early-at 1) [])))
-          (seq (assign (place (late-at 7) []) (aggregate (copy (place (late-at 6) []) ∷ int w64 256 ∷ [])))
+          (seq (assign (place (late-at 7) []) (aggregate (copy (place (late-at 6) []) ∷ int w64 mostFigureWords ∷ [])))
           (seq (assign (place (late-at 8) []) (addrOf (place (early-at 2) [])))
           (seq (assign (place (late-at 9) []) (addrOf (place (count (paramTys g) + 2) (field 0 ∷ deref T′.mir ∷ []))))
           (seq (assign (place (late-at 10) []) (aggregate (copy (place (late-at 9) []) ∷ copy (place (count (paramTys g) + 2) (field 1 ∷ [])) ∷ [])))
@@ -189,7 +189,7 @@ module _ (S : RattleType) (g : Buffers) (xs : List Extra) (Refuse : List ℕ →
     }
 
     module _ {M : Type 1} (𝓤 : URA M) (H : Heap 𝓤) (A : Atoms 𝓤) (W : Given 𝓤 H A) (at-mem : Memory → SProp 𝓤) (run : Routine → Fun 𝓤)
-        (Pre : List ℕ → Lists g → ℕ → Values xs → Type 0) (asks : (b : List ℕ) (h : Handed g xs) → length (now (h .words)) ≡ 256 → Pre b (lists g (h .buffers)) (h .room) (h .extras) → Ask b h)
+        (Pre : List ℕ → Lists g → ℕ → Values xs → Type 0) (asks : (b : List ℕ) (h : Handed g xs) → length (now (h .words)) ≡ mostFigureWords → Pre b (lists g (h .buffers)) (h .room) (h .extras) → Ask b h)
         (Requires : (κs : Lfts (called g)) → Args (ended xs g S .signature) κs → SProp 𝓤)
         (opens : (κs : Lfts (called g)) (a : Args (ended xs g S .signature) κs) (P Q : SProp 𝓤) → let o = opened xs g κs (a .1) in
         (Pre (now (a .0)) (lists g (o .buffers)) (length (now (o .table))) (o .extras) → ent 𝓤 P Q) → ent 𝓤 (sep 𝓤 P (Requires κs a)) Q)
@@ -236,7 +236,7 @@ module _ (S : RattleType) (g : Buffers) (xs : List Extra) (Refuse : List ℕ →
         -- `work`, the count, the words and the sets in the locals l₃, l₄ and l₅ being lent for ν₁, ν₂ and ν₃ under the names γ₁, γ₂ and γ₃
         module _ (ν₁ ν₂ ν₃ l₃ l₄ l₅ : ℕ) (γ₁ γ₂ γ₃ : GName) where
           abbrev h : Handed g xs
-          h = record { buffers = x; room = m; records = lent l₃ 0 γ₁; words = lent l₄ (zeros 256) γ₂; sets = lent l₅ (zeros ecbWords) γ₃; extras = e }
+          h = record { buffers = x; room = m; records = lent l₃ 0 γ₁; words = lent l₄ (zeros mostFigureWords) γ₂; sets = lent l₅ (zeros ecbWords) γ₃; extras = e }
 
           abbrev κw : Lfts (working g)
           κw = work-lfts xs g κs ν₁ ν₂ ν₃
@@ -255,7 +255,7 @@ module _ (S : RattleType) (g : Buffers) (xs : List Extra) (Refuse : List ℕ →
 
           -- what it leaves, and says of it
           abbrev left-items : Left g → Item 𝓤
-          left-items z = left xs 𝓤 g x (z .buffers) ⊛ ‵ (fres γ₁ (usize .coded .code (z .records))) ⊛ ‵ (lastList u32 (lent l₄ (zeros 256) γ₂) (z .words)) ⊛ ‵
+          left-items z = left xs 𝓤 g x (z .buffers) ⊛ ‵ (fres γ₁ (usize .coded .code (z .records))) ⊛ ‵ (lastList u32 (lent l₄ (zeros mostFigureWords) γ₂) (z .words)) ⊛ ‵
               (fres γ₃ (SetWords .coded .code (z .sets)))
 
           abbrev Leaves : Answer → Left g → SProp 𝓤
@@ -309,9 +309,9 @@ module _ (S : RattleType) (g : Buffers) (xs : List Extra) (Refuse : List ℕ →
               pass1 ! (init ! 33 refl (tt, (tt, (record { fits = fit .1 .0 .0 }, tt)))) $ move ! (32 ∷ []) $ pass-all ! (tys xs) βX (machines xs e) _ (fit .1 .1) $ pass0 ! $
               -- the count, the words and the sets; the buffers are lent on
               assigns ! (of-opd ! (lit ! tt)) (early Z ! 0 (stop !)) (init ! 31 refl (tt, record { fits = lit< tt })) $
-              use0 W (‵ (Words .own (zeros 256) (zeroVal w32 256 ∷ []))) (zero-array 𝓤 H A W w32 256 (lit< tt)) $
-              peeks ! Words (Is Words) (shows 𝓤 H A Words) (zeros 256) (zeroVal w32 256 ∷ []) (λ is-w. assigns ! (rep ! 256 (lit ! tt)) (early Z ! 1 (stop !))
-              (init ! 30 refl (array-fits 𝓤 H A W w32 256 (zeros 256) (zeroVal w32 256) is-w)) $
+              use0 W (‵ (Words .own (zeros mostFigureWords) (zeroVal w32 mostFigureWords ∷ []))) (zero-array 𝓤 H A W w32 mostFigureWords (lit< tt)) $
+              peeks ! Words (Is Words) (shows 𝓤 H A Words) (zeros mostFigureWords) (zeroVal w32 mostFigureWords ∷ []) (λ is-w. assigns ! (rep ! mostFigureWords (lit ! tt)) (early Z ! 1 (stop !))
+              (init ! 30 refl (array-fits 𝓤 H A W w32 mostFigureWords (zeros mostFigureWords) (zeroVal w32 mostFigureWords) is-w)) $
               use0 W (‵ (SetWords .own (zeros ecbWords) (zeroVal w64 ecbWords ∷ []))) (zero-array 𝓤 H A W w64 ecbWords (lit< tt)) $
               peeks ! SetWords (Is SetWords) (shows 𝓤 H A SetWords) (zeros ecbWords) (zeroVal w64 ecbWords ∷ []) (λ is-e. assigns ! (rep ! ecbWords (lit ! tt)) (early Z ! 2 (stop !))
               (init ! 29 refl (array-fits 𝓤 H A W w64 ecbWords (zeros ecbWords) (zeroVal w64 ecbWords) is-e)) $
@@ -329,11 +329,11 @@ module _ (S : RattleType) (g : Buffers) (xs : List Extra) (Refuse : List ℕ →
               use1 W (later (some (λ (γ : GName). ‵ (MutRef (named 1) (ν₁ ∷ []) usize .own (lent l₃ 0 γ) (vptr l₃ 0 ∷ [])) ⊛ ‵
               (flent (ν₁ ∷ []) (Body (mem usize) l₃ 0 γ))))) (lends-ref 𝓤 H A W usize (named 1) (ν₁ ∷ []) 0 l₃ 0) $
               await ! tt $ pick ! (λ γ₁. split ! $
-              move ! (34 ∷ 6 ∷ []) $ use2 W (‵ (partAt Words fullShare (zeros 256) l₄ 0)) (local-in 𝓤 H A W Words (tyArray (tyInt w32) 256) refl (zeros 256) l₄ (zeroVal w32 256)) $
-              use1 W (‵ (arr-parts (shares u32) 256 .part fullShare (zeros 256) l₄ 0)) (array-apart 𝓤 H A W u32 fullShare tt 256 (zeros 256) l₄ 0) $ fsplit ! $ drop ! $
-              use1 W (‵ (elements (mem u32) (zeros 256) l₄ 0)) (whole-in 𝓤 H A W u32 (zeros 256) l₄ 0) $ lft-new ! tt (λ ν₂. move ! (1 ∷ []) $
-              use1 W (later (some (λ (γ : GName). ‵ (MutSlice (named 2) (ν₂ ∷ []) u32 .own (lent l₄ (zeros 256) γ) (val (lent l₄ (zeros 256) γ) ∷ [])) ⊛ ‵
-              (flent (ν₂ ∷ []) (Held u32 256 l₄ 0 γ))))) (lends-slice 𝓤 H A W u32 (named 2) (ν₂ ∷ []) (zeros 256) l₄ 0 (has-room (zeros 256) refl)) $
+              move ! (34 ∷ 6 ∷ []) $ use2 W (‵ (partAt Words fullShare (zeros mostFigureWords) l₄ 0)) (local-in 𝓤 H A W Words (tyArray (tyInt w32) mostFigureWords) refl (zeros mostFigureWords) l₄ (zeroVal w32 mostFigureWords)) $
+              use1 W (‵ (arr-parts (shares u32) mostFigureWords .part fullShare (zeros mostFigureWords) l₄ 0)) (array-apart 𝓤 H A W u32 fullShare tt mostFigureWords (zeros mostFigureWords) l₄ 0) $ fsplit ! $ drop ! $
+              use1 W (‵ (elements (mem u32) (zeros mostFigureWords) l₄ 0)) (whole-in 𝓤 H A W u32 (zeros mostFigureWords) l₄ 0) $ lft-new ! tt (λ ν₂. move ! (1 ∷ []) $
+              use1 W (later (some (λ (γ : GName). ‵ (MutSlice (named 2) (ν₂ ∷ []) u32 .own (lent l₄ (zeros mostFigureWords) γ) (val (lent l₄ (zeros mostFigureWords) γ) ∷ [])) ⊛ ‵
+              (flent (ν₂ ∷ []) (Held u32 mostFigureWords l₄ 0 γ))))) (lends-slice 𝓤 H A W u32 (named 2) (ν₂ ∷ []) (zeros mostFigureWords) l₄ 0 (has-room (zeros mostFigureWords) refl)) $
               await ! tt $ pick ! (λ γ₂. split ! $
               move ! (34 ∷ 8 ∷ []) $ use2 W (‵ (partAt SetWords fullShare (zeros ecbWords) l₅ 0)) (local-in 𝓤 H A W SetWords (tyArray (tyInt w64) ecbWords) refl (zeros ecbWords) l₅ (zeroVal w64 ecbWords)) $
               lft-new ! tt (λ ν₃. move ! (1 ∷ []) $
@@ -368,7 +368,7 @@ module _ (S : RattleType) (g : Buffers) (xs : List Extra) (Refuse : List ℕ →
               use1 W (‵ (fat fullShare (tyInt w64) l₃ 0 (vint w64 n)) ⊛ ‵ (usize .own n (vint w64 n ∷ [])))
               (local-out 𝓤 H A W usize (tyInt w64) refl n l₃ (λ k. vint w64 k) (uint-tells w64)) $
               split ! $ move ! (1 ∷ []) $ peeks ! usize (Is usize) (shows 𝓤 H A usize) n (vint w64 n ∷ []) (λ is-n. drop ! $
-              move ! (1 ∷ []) $ lft-end ! tt $ move ! (0 ∷ 11 ∷ 6 ∷ []) $ use3 W (later (‵ (Arr (mem u32) 256 .lies ws l₄ 0))) (slice-back 𝓤 H A W u32 (ν₂ ∷ []) γ₂ ws 256 l₄ 0) $
+              move ! (1 ∷ []) $ lft-end ! tt $ move ! (0 ∷ 11 ∷ 6 ∷ []) $ use3 W (later (‵ (Arr (mem u32) mostFigureWords .lies ws l₄ 0))) (slice-back 𝓤 H A W u32 (ν₂ ∷ []) γ₂ ws mostFigureWords l₄ 0) $
               await ! tt $ fsplit ! $ drop ! $ use1 W (‵ (row u32 fullShare ws l₄ 0)) (whole-out 𝓤 H A W u32 ws l₄ 0) $
               move ! (2 ∷ []) $ lft-end ! tt $ move ! (0 ∷ 9 ∷ 6 ∷ []) $ use3 W (later (‵ (partAt SetWords fullShare es l₅ 0))) (ref-back 𝓤 H A W SetWords (ν₃ ∷ []) γ₃ es l₅ 0) $ await ! tt $
               -- `fill`, the words and the sets being shared for two lifetimes of the call, the words as a slice
@@ -413,10 +413,10 @@ module _ (S : RattleType) (g : Buffers) (xs : List Extra) (Refuse : List ℕ →
               move ! (1 ∷ []) $ split ! $ move ! (1 ∷ []) $ feqL ! (λ is₂. land ! (late Z ! 5 (stop !)) (init ! 21 refl (is-unit u₂ is₂)) $ split ! $ move ! (1 ∷ []) $ split ! $
               move ! (1 ∷ []) $ split ! $ move ! (1 ∷ []) $ split ! $ move ! (1 ∷ []) $ drop ! $
               -- both are locals again, and the answer is returned
-              move ! (2 ∷ []) $ lft-end ! tt $ move ! (0 ∷ 6 ∷ []) $ lent-back ! tt $ fsplit ! $ drop ! $ feqI ! ℕ (length ws) 256 len-w $ fjoin ! $
-              use1 W (‵ (partAt Words fullShare ws l₄ 0)) (array-whole 𝓤 H A W u32 fullShare 256 ws l₄ 0) $
-              use1 W (‵ (fat fullShare (tyArray (tyInt w32) 256) l₄ 0 (only-val w32 ws)) ⊛ ‵ (Words .own ws (only-val w32 ws ∷ [])))
-              (local-out 𝓤 H A W Words (tyArray (tyInt w32) 256) refl ws l₄ (only-val w32) (array-tells (UInt w32) (uint-vals w32) (uint-tells w32) 256)) $
+              move ! (2 ∷ []) $ lft-end ! tt $ move ! (0 ∷ 6 ∷ []) $ lent-back ! tt $ fsplit ! $ drop ! $ feqI ! ℕ (length ws) mostFigureWords len-w $ fjoin ! $
+              use1 W (‵ (partAt Words fullShare ws l₄ 0)) (array-whole 𝓤 H A W u32 fullShare mostFigureWords ws l₄ 0) $
+              use1 W (‵ (fat fullShare (tyArray (tyInt w32) mostFigureWords) l₄ 0 (only-val w32 ws)) ⊛ ‵ (Words .own ws (only-val w32 ws ∷ [])))
+              (local-out 𝓤 H A W Words (tyArray (tyInt w32) mostFigureWords) refl ws l₄ (only-val w32) (array-tells (UInt w32) (uint-vals w32) (uint-tells w32) mostFigureWords)) $
               split ! $ move ! (1 ∷ []) $ drop ! $
               move ! (2 ∷ []) $ lft-end ! tt $ move ! (0 ∷ 5 ∷ []) $ lent-back ! tt $
               use1 W (‵ (fat fullShare (tyArray (tyInt w64) ecbWords) l₅ 0 (only-val w64 es)) ⊛ ‵ (SetWords .own es (only-val w64 es ∷ [])))

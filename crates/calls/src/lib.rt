@@ -1,6 +1,7 @@
 // The public calls: figures, overhead, weigh, analyse, its sibling analyse_in_order, and make_up. The types of their answers and of the table are passed on, so that a
 // caller imports them from here.
 pub use answers::Answer;
+use answers::MOST_FIGURE_WORDS;
 pub use answers::MadeUp;
 pub use answers::Outcome;
 use board::MOST_TASKS;
@@ -31,7 +32,7 @@ pub fn analyse(
         (now (table .entry)) ⌝ }
 {
     let mut n: usize = 0;
-    let mut words = [0u32; 256];
+    let mut words = [0u32; MOST_FIGURE_WORDS];
     let mut sets = [0u64; ECB_WORDS];
     let answer = works::analyse(
         board,
@@ -62,7 +63,7 @@ pub fn analyse_in_order<'a>(
         (now (table .entry)) ⌝ }
 {
     let mut n: usize = 0;
-    let mut words = [0u32; 256];
+    let mut words = [0u32; MOST_FIGURE_WORDS];
     let mut sets = [0u64; ECB_WORDS];
     let answer = works::analyse_in_order(
         board,
@@ -94,7 +95,7 @@ pub fn make_up(
         (now (table .entry)) ⌝ }
 {
     let mut n: usize = 0;
-    let mut words = [0u32; 256];
+    let mut words = [0u32; MOST_FIGURE_WORDS];
     let mut sets = [0u64; ECB_WORDS];
     let made = works::make_up(
         board,
@@ -115,7 +116,7 @@ pub fn analyse_alone(board: &[u32], times: &mut [u32], scratch: &mut [u32]) -> A
     ensures { λ r. ⌜ Analysed (now (board .entry)) (now (times .entry)) (now (scratch .entry)) mostTasks r (now (times .exit)) (now (scratch .exit)) ⌝ }
 {
     let mut n: usize = 0;
-    let mut words = [0u32; 256];
+    let mut words = [0u32; MOST_FIGURE_WORDS];
     let mut sets = [0u64; ECB_WORDS];
     works::analyse(
         board,
@@ -133,7 +134,7 @@ pub fn make_up_alone(board: &[u32], times: &mut [u32], scratch: &mut [u32], task
     ensures { λ r. ⌜ MadeUpAll (now (board .entry)) (now (times .entry)) (now (scratch .entry)) mostTasks task r (now (times .exit)) (now (scratch .exit)) ⌝ }
 {
     let mut n: usize = 0;
-    let mut words = [0u32; 256];
+    let mut words = [0u32; MOST_FIGURE_WORDS];
     let mut sets = [0u64; ECB_WORDS];
     works::make_up(
         board,
@@ -154,7 +155,7 @@ pub fn figures(board: &[u32], table: &mut [Figure]) -> Outcome
         (figuresRefusal (now (board .entry)) (length (now (table .entry)))) (now (table .entry)) ⌝ }
 {
     let mut n: usize = 0;
-    let mut words = [0u32; 256];
+    let mut words = [0u32; MOST_FIGURE_WORDS];
     let mut sets = [0u64; ECB_WORDS];
     let outcome = works::figures(board, table.len(), &mut n, &mut words, &mut sets);
     table::fill(board, n, &words, &sets, table);

@@ -1,5 +1,6 @@
 // The calls for C and Rust, on numbers and word slices; include/zuzgravel.h declares them. Each takes every input, returns a code, and
 // puts the two numbers of its answer into the two words of `answer`, also where it refuses. In C the array is one pointer, with no length.
+use answers::MOST_FIGURE_WORDS;
 use figures::ECB_WORDS;
 use replies::parts::of_made_up;
 use replies::reply::of_answer;
@@ -31,7 +32,7 @@ pub extern "C" fn zuzgravel_figures(
         (figuresRefusal (now (board .entry)) (recordRoom (now (records .entry)))) (now (records .entry)) ⌝ }
 {
     let mut n: usize = 0;
-    let mut words = [0u32; 256];
+    let mut words = [0u32; MOST_FIGURE_WORDS];
     let mut sets = [0u64; ECB_WORDS];
     let outcome = works::figures(
         board,
@@ -87,7 +88,7 @@ pub extern "C" fn zuzgravel_analyse(
         (analyseRefusal (now (board .entry)) (length (now (times .entry))) (length (now (scratch .entry))) (recordRoom (now (records .entry)))) (now (records .entry)) ⌝ }
 {
     let mut n: usize = 0;
-    let mut words = [0u32; 256];
+    let mut words = [0u32; MOST_FIGURE_WORDS];
     let mut sets = [0u64; ECB_WORDS];
     let room = records.len() / RECORD_WORDS;
     let found = works::analyse(board, times, scratch, room, &mut n, &mut words, &mut sets);
@@ -111,7 +112,7 @@ pub extern "C" fn zuzgravel_analyse_in_order<'a>(
         (inOrderRefusal (now (board .entry)) (length (now (times .entry))) (length (now (scratch .entry))) (recordRoom (now (records .entry))) (now (order .entry))) (now (records .entry)) ⌝ }
 {
     let mut n: usize = 0;
-    let mut words = [0u32; 256];
+    let mut words = [0u32; MOST_FIGURE_WORDS];
     let mut sets = [0u64; ECB_WORDS];
     let room = records.len() / RECORD_WORDS;
     let found = works::analyse_in_order(
@@ -146,7 +147,7 @@ pub extern "C" fn zuzgravel_make_up(
         (makeUpRefusal (now (board .entry)) (length (now (times .entry))) (length (now (scratch .entry))) (recordRoom (now (records .entry))) task) (now (records .entry)) ⌝ }
 {
     let mut n: usize = 0;
-    let mut words = [0u32; 256];
+    let mut words = [0u32; MOST_FIGURE_WORDS];
     let mut sets = [0u64; ECB_WORDS];
     let room = records.len() / RECORD_WORDS;
     let made = works::make_up(

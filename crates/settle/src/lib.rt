@@ -16,6 +16,7 @@ ghost use Rattle.passes.specs.Visits.{inOrder, Permutation};
 ghost use Rattle.scratch.specs.Scratch.{Room, Prepared};
 ghost use Rattle.checks.specs.Accepted.{Analysable};
 ghost use Rattle.answers.specs.Answers.{system};
+ghost use Rattle.answers.specs.Records.{mostFigureWords};
 ghost use Rattle.answers.specs.Concluded.{Concluded};
 ghost use Rattle.settle.specs.Begun.{Begun};
 ghost use Rattle.settle.specs.Settled.{Settled};
@@ -30,7 +31,7 @@ pub fn settle(
     words: &mut [u32],
     sets: &mut [u64; ECB_WORDS],
 ) -> Answer
-    requires { ⌜ (verdict ≡ Passed → Analysable (now board) (length (now times)) (length (now scratch))) × (256 ≤ length (now words)) ⌝ }
+    requires { ⌜ (verdict ≡ Passed → Analysable (now board) (length (now times)) (length (now scratch))) × (mostFigureWords ≤ length (now words)) ⌝ }
     ensures { λ r. ⌜ Settled (pass (system (now (board .entry)))) verdict (now (board .entry)) (now (times .entry)) (now (scratch .entry)) r
         (now (records .exit)) (now (words .exit)) (now (sets .exit)) (now (times .exit)) (now (scratch .exit)) ⌝ }
 {
@@ -53,7 +54,7 @@ pub fn settle_in_order<'a>(
     order: &'a [u32],
 ) -> Answer
     requires { ⌜ (verdict ≡ Passed → (Analysable (now board) (length (now times)) (length (now scratch))) × Permutation (tasks (now board)) (now order))
-        × (256 ≤ length (now words)) ⌝ }
+        × (mostFigureWords ≤ length (now words)) ⌝ }
     ensures { λ r. ⌜ Settled (inOrder (system (now (board .entry))) (now (order .entry))) verdict (now (board .entry)) (now (times .entry)) (now (scratch .entry)) r
         (now (records .exit)) (now (words .exit)) (now (sets .exit)) (now (times .exit)) (now (scratch .exit)) ⌝ }
 {
@@ -76,7 +77,7 @@ fn begin(
     words: &mut [u32],
     sets: &mut [u64; ECB_WORDS],
 ) -> usize
-    requires { ⌜ (verdict ≡ Passed → Room (now board) (tasks (now board)) (now scratch)) × (256 ≤ length (now words)) ⌝ }
+    requires { ⌜ (verdict ≡ Passed → Room (now board) (tasks (now board)) (now scratch)) × (mostFigureWords ≤ length (now words)) ⌝ }
     ensures { λ r. ⌜ Begun (Prepared (now (board .entry)) (tasks (now (board .entry)))) (now (board .entry)) verdict r
         (now (scratch .entry)) (now (scratch .exit)) (now (words .exit)) (now (sets .exit)) ⌝ }
 {
@@ -84,7 +85,9 @@ fn begin(
         Verdict::Passed => {
             let n = index(board::fields::tasks(board));
             scratch::prepare(board, n, scratch, sets);
-            folds::words::copy(4 * n, scratch, words);
+            let first = 2 * n;
+            let end = 4 * n;
+            folds::words::copy_at(first, &scratch[first..end], words, first);
             n
         }
         Verdict::Refused(_, _) => 0,

@@ -20,7 +20,7 @@ ghost use Prim.Native.Nat.{_≤_};
 ghost use lib.ListN.{length};
 ghost use Rattle.checks.specs.CallRefusals.{figuresRefusal, analyseRefusal, inOrderRefusal, makeUpRefusal};
 ghost use Rattle.answers.specs.Answers.{figuresAnswer};
-ghost use Rattle.answers.specs.Records.{RecordsToFill};
+ghost use Rattle.answers.specs.Records.{mostFigureWords, RecordsToFill};
 ghost use Rattle.answers.specs.Demand.{Analysed};
 ghost use Rattle.answers.specs.InOrder.{AnalysedInOrder};
 ghost use Rattle.answers.specs.MakeUp.{MadeUpAll};
@@ -34,7 +34,7 @@ pub fn analyse(
     words: &mut [u32],
     sets: &mut [u64; ECB_WORDS],
 ) -> Answer
-    requires { ⌜ 256 ≤ length (now words) ⌝ }
+    requires { ⌜ mostFigureWords ≤ length (now words) ⌝ }
     ensures { λ r. ⌜ RecordsToFill (analyseRefusal (now (board .entry)) (length (now (times .entry))) (length (now (scratch .entry))) room)
         (now (board .entry)) room (now (records .exit)) (now (words .exit)) (now (sets .exit))
         × Analysed (now (board .entry)) (now (times .entry)) (now (scratch .entry)) room r (now (times .exit)) (now (scratch .exit)) ⌝ }
@@ -53,7 +53,7 @@ pub fn analyse_in_order<'a>(
     sets: &mut [u64; ECB_WORDS],
     order: &'a [u32],
 ) -> Answer
-    requires { ⌜ 256 ≤ length (now words) ⌝ }
+    requires { ⌜ mostFigureWords ≤ length (now words) ⌝ }
     ensures { λ r. ⌜ RecordsToFill (inOrderRefusal (now (board .entry)) (length (now (times .entry))) (length (now (scratch .entry))) room (now (order .entry)))
         (now (board .entry)) room (now (records .exit)) (now (words .exit)) (now (sets .exit))
         × AnalysedInOrder (now (board .entry)) (now (times .entry)) (now (scratch .entry)) room (now (order .entry)) r (now (times .exit)) (now (scratch .exit)) ⌝ }
@@ -72,7 +72,7 @@ pub fn make_up(
     sets: &mut [u64; ECB_WORDS],
     task: usize,
 ) -> MadeUp
-    requires { ⌜ 256 ≤ length (now words) ⌝ }
+    requires { ⌜ mostFigureWords ≤ length (now words) ⌝ }
     ensures { λ r. ⌜ RecordsToFill (makeUpRefusal (now (board .entry)) (length (now (times .entry))) (length (now (scratch .entry))) room task)
         (now (board .entry)) room (now (records .exit)) (now (words .exit)) (now (sets .exit))
         × MadeUpAll (now (board .entry)) (now (times .entry)) (now (scratch .entry)) room task r (now (times .exit)) (now (scratch .exit)) ⌝ }
@@ -89,7 +89,7 @@ pub fn figures(
     words: &mut [u32],
     sets: &mut [u64; ECB_WORDS],
 ) -> Outcome
-    requires { ⌜ 256 ≤ length (now words) ⌝ }
+    requires { ⌜ mostFigureWords ≤ length (now words) ⌝ }
     ensures { λ r. ⌜ (RecordsToFill (figuresRefusal (now (board .entry)) room)
         (now (board .entry)) room (now (records .exit)) (now (words .exit)) (now (sets .exit)))
         × (r ≡ figuresAnswer (now (board .entry)) room) ⌝ }

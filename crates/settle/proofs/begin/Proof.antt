@@ -2,10 +2,11 @@
 -- Assumes nothing.
 use mathlib.Core.Path.{_≡_, sym, subst, _∙_}
 use Prim.Native.Nat.{ℕ}
+use native.Mathlib.Omega.{arith}
 use borrow.Author.Needs.{needs}
 use Rattle.board.specs.Layout.{tasks}
 use Rattle.scratch.specs.Scratch.{Room}
-use Rattle.settle.proofs.Begun.{begun-tasks, begun-none}
+use Rattle.settle.proofs.Begun.{copied-words, begun-tasks, begun-none}
 use Rattle.settle.proofs.begin.Statement.{statement}
 use Rattle.settle.proofs.begin.Tie as tie
 
@@ -30,12 +31,21 @@ begin-spec =
     (λ c κs. search needs)
     (λ c κs. room (c .before .before))
     (λ c. search needs)
-    (λ c κs. search needs)
     (λ c. search needs)
     (λ c. search needs)
     (λ c. search needs)
+    (λ c. search needs)
+    (λ c. omega (arith, c .before .before .before .prepare .ensures .0 .room .words))
+    (λ c κs.
+    let p = c .before .before .before .before .before in
+    let s = start-of (p .before .before .before) in
+    let w = p .prepare .ensures in
+    (copied-words (w .0), omega (arith, s .pre .1, w .0 .room .sound .tasks, w .0 .room .tasks)))
+    (λ c. search needs)
+    (λ c. search needs)
+    (λ c. c .before .before .copy-at .ensures .size)
     (λ c.
-    let p = c .before .before .before .before .before .before .before in
+    let p = c .before .before .before .before .before .before .before .before in
     let i = p .before .before .before in
-    begun-tasks (start-of i .args .words .now) (i .before .before .enum-told .given .1) (all i) (p .prepare .ensures) (start-of i .pre .1) (c .before .before .copy .ensures))
+    begun-tasks (start-of i .args .words .now) (i .before .before .enum-told .given .1) (all i) (p .prepare .ensures) (start-of i .pre .1) (c .before .before .copy-at .ensures))
     (λ c. begun-none (c .enum-told2 .given .1)))
