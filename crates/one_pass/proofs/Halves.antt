@@ -7,7 +7,6 @@ use native.Mathlib.Omega.{arith}
 use lib.ListN.{length, getD, take, replicate, length-replicate, getD-replicate}
 use lib.Seq.{length-take-le, getD-take, ext-getD}
 use Rattle.folds.specs.Folds.{fillTo}
-use Rattle.folds.proofs.Lists.{fillTo-from}
 use Rattle.passes.specs.Passes.{System, capped, pass}
 use Rattle.passes.proofs.Ascending.{length-pass, getD-pass}
 use Rattle.passes.proofs.Looping.{Passing, passing-none}
@@ -73,11 +72,6 @@ module _ (S : System) {n : ℕ} {old new : List ℕ} (tasks : n ≡ S .count) (r
   pub advanced : {w : List ℕ} → w ≡ fillTo (λ k. getD new (n + k) 0) n new → take n w ≡ pass S (take n old)
   advanced moved = take-filled new (pass S (take n old)) moved (omega (arith, made .size)) (length-pass S (take n old) ∙ sym tasks) next-time
 
-  module _ {w : List ℕ} (moved : w ≡ fillTo (λ k. getD new (n + k) 0) n new) (i : ℕ) (h : i < n) where
-    -- a time that the pass did not change
-    pub still : getD new i 0 ≡ getD new (n + i) 0 → getD (take n old) i 0 ≡ getD (take n w) i 0
-    still e = time i h ∙ e ∙ sym (next-time i h) ∙ ap (λ (R : List ℕ). getD R i 0) (sym (advanced moved))
-
-    -- a next time stands behind the times too
-    pub next-kept : getD w (n + i) 0 ≡ capped S (take n old) i
-    next-kept = ap (λ (l : List ℕ). getD l (n + i) 0) moved ∙ fillTo-from (λ k. getD new (n + k) 0) new 0 n (n + i) (omega arith) ∙ made .part i h
+  -- a time that the pass did not change
+  pub still : {w : List ℕ} → w ≡ fillTo (λ k. getD new (n + k) 0) n new → (i : ℕ) → i < n → getD new i 0 ≡ getD new (n + i) 0 → getD (take n old) i 0 ≡ getD (take n w) i 0
+  still moved i h e = time i h ∙ e ∙ sym (next-time i h) ∙ ap (λ (R : List ℕ). getD R i 0) (sym (advanced moved))

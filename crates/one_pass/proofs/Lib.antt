@@ -2,5 +2,7 @@
 pub mod Sums
 pub mod FullJitter
 pub mod Halves
-pub mod Kept
+pub mod DueTasks
+pub mod Visiting
+pub mod Turned
 pub mod Punctual

@@ -2,4 +2,5 @@
 pub mod System
 pub mod Punctual
 pub mod Startable
-pub mod Kept
+pub mod DueTasks
+pub mod Visiting

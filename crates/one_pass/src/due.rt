@@ -1,32 +1,39 @@
-// The tasks that a pass has to compute: those that read a time which the pass before it moved. Known of these times is which they are, and
-// the core that their tasks are all on: 9 where they are on more than one, and 0 where there is none that a task on another core reads.
+// The tasks that are due: those that read a time which changed since they were summed last. They are bits of one word, and so are the tasks on each core.
+use bitset::word::or_not;
+use bitset::word::with;
 use board::fields::bus;
 use board::fields::core;
-ghost use mathlib.Core.Bool.{false};
+use chains::MOST_CORES;
+use folds::index;
 ghost use mathlib.Core.Path.{_≡_};
 ghost use Prim.Native.Nat.{_<_};
-ghost use Rattle.board.specs.Layout as at;
+ghost use Rattle.board.specs.Layout.{tasks};
 ghost use Rattle.board.specs.Sound.{Sound};
-ghost use Rattle.one_pass.specs.Kept.{Within, Joined};
+ghost use Rattle.one_pass.specs.DueTasks.{OnCores, Joined};
 
-// Whether a task on core x has to be computed, by whether its own time moved and the core of all that did.
-pub fn is_due(own: bool, all: u32, x: u32) -> bool
-    ensures { λ r. ⌜ (r ≡ false → (own ≡ false) × Within all x) ⌝ }
+// Makes the words of the cores, which are all 0: in the word of each core, a bit for each of its tasks.
+pub fn make_cores(board: &[u32], n: usize, on: &mut [u64; MOST_CORES])
+    requires { ⌜ (Sound (now board)) × (n ≡ tasks (now board)) × OnCores (now board) 0 (now on) ⌝ }
+    ensures { λ _. ⌜ OnCores (now (board .entry)) (tasks (now (board .entry))) (now (on .exit)) ⌝ }
 {
-    own | ((all != 0) & (all != x))
+    let mut k = 0;
+    while k < n {
+        let y = index(core(board, k)) - 1;
+        on[y] = with(on[y], k);
+        k += 1;
+    }
 }
 
-// The core of all moved tasks, task k with them. On bus 4 (TDMA) no task reads the time of another.
-pub fn joined(board: &[u32], all: u32, k: usize) -> u32
-    requires { ⌜ (Sound (now board)) × (k < at.tasks (now board)) ⌝ }
-    ensures { λ r. ⌜ Joined (now (board .entry)) all k r ⌝ }
+// The tasks that are due once the time of task i has changed: those that are due, itself, and those on other cores, but for bus 4 (TDMA), where no
+// task reads the time of another.
+pub fn joined(board: &[u32], on: &[u64], due: u64, i: usize) -> u64
+    requires { ⌜ (Sound (now board)) × (i < tasks (now board)) × OnCores (now board) (tasks (now board)) (now on) ⌝ }
+    ensures { λ r. ⌜ Joined (now (board .entry)) due i r ⌝ }
 {
-    let x = core(board, k);
+    let own = with(due, i);
     if bus(board) == 4 {
-        0
-    } else if (all == 0) | (all == x) {
-        x
+        own
     } else {
-        9
+        or_not(own, on[index(core(board, i)) - 1])
     }
 }

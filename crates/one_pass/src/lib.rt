@@ -1,19 +1,20 @@
-// One pass over the times of a prepared scratch.
-mod due;
+// One pass over the times of a prepared scratch: of all tasks together, or (`visits`) in a chosen order.
+pub mod due;
+pub mod visits;
 
-use chains::CHAIN_WORDS;
-use due::is_due;
+use bitset::word::has;
 use due::joined;
 ghost use mathlib.Core.Path.{_≡_};
-ghost use Prim.Native.Nat.{_+_, _<_, _≤_};
-ghost use lib.ListN.{length, getD, take};
+ghost use Prim.Native.Nat.{_+_, _<_};
+ghost use lib.ListN.{getD, take};
 ghost use Rattle.folds.specs.Folds.{fillTo};
 ghost use Rattle.passes.specs.Passes.{capped};
 ghost use Rattle.folds.specs.Stored.{Stored};
+ghost use Rattle.board.specs.Layout.{tasks};
 ghost use Rattle.sums.specs.Chains.{Linked};
 ghost use Rattle.scratch.specs.Scratch.{Passable, Prepared};
 ghost use Rattle.one_pass.specs.System.{system};
-ghost use Rattle.one_pass.specs.Kept.{Told, Kept};
+ghost use Rattle.one_pass.specs.DueTasks.{OnCores, Quiet, Unchanged};
 ghost use Rattle.one_pass.specs.Startable.{Startable};
 
 // The next time of task i: its sum, or its bound + 1 where the sum is larger.
@@ -27,43 +28,40 @@ pub fn next_time(board: &[u32], n: usize, links: &[u32], scratch: &[u32], i: usi
     time as u32
 }
 
-// One pass: the n words from n on become the next times of the first n words. The next times of tasks that read no moved time
-// are there already; `all` is the core of all tasks that moved.
-pub fn make_pass(board: &[u32], n: usize, moved: &[bool], all: u32, scratch: &mut [u32])
-    requires { ⌜ (Startable (now board) n (now scratch)) × (Prepared (now board) n (now scratch)) × (n ≤ length (now moved))
-        × Kept (now board) n (now scratch) (now moved) all ⌝ }
+// One pass: the n words from n on become the next times of the first n words. A task that is not due has its next time already.
+pub fn make_pass(board: &[u32], n: usize, links: &[u32], due: u64, scratch: &mut [u32])
+    requires { ⌜ (Startable (now board) n (now scratch)) × (Prepared (now board) n (now scratch)) × Linked (now board) (now links)
+        × Quiet (now board) n due (now scratch) ⌝ }
     ensures { λ _. ⌜ Stored (capped (system (now (board .entry))) (take n (now (scratch .entry)))) n n (now (scratch .entry)) (now (scratch .exit)) ⌝ }
 {
-    let mut links = [0u32; CHAIN_WORDS];
-    chains::make(board, n, &mut links);
     let mut i = 0;
     while i < n {
-        if is_due(moved[i], all, board::fields::core(board, i)) {
-            scratch[n + i] = next_time(board, n, &links, scratch, i);
-        }
+        let next = if has(due, i) {
+            next_time(board, n, links, scratch, i)
+        } else {
+            scratch[i]
+        };
+        scratch[n + i] = next;
         i += 1;
     }
 }
 
-// Moves the n words from n on to the front, and tells which of the n words there this changed, and on which core all of them are.
-pub fn advance(board: &[u32], n: usize, moved: &mut [bool], words: &mut [u32]) -> u32
-    requires { ⌜ (Passable (now board) n (now words)) × (n ≤ length (now moved)) ⌝ }
+// Moves the n words from n on to the front. Answers the tasks that are due: those that read a time which this changed.
+pub fn advance(board: &[u32], n: usize, on: &[u64], words: &mut [u32]) -> u64
+    requires { ⌜ (Passable (now board) n (now words)) × OnCores (now board) (tasks (now board)) (now on) ⌝ }
     ensures { λ _. ⌜ now (words .exit) ≡ fillTo (λ k. getD (now (words .entry)) (n + k) 0) n (now (words .entry)) ⌝ }
-    ensures { λ r. ⌜ Told (now (board .entry)) n (now (words .entry)) (now (moved .exit)) r n ⌝ }
+    ensures { λ r. ⌜ Unchanged (now (board .entry)) n (now (words .entry)) r n ⌝ }
 {
-    let mut all: u32 = 0;
+    let mut due = 0u64;
     let mut k = 0;
     while k < n {
         let time = words[k];
         let next = words[n + k];
         words[k] = next;
-        if time == next {
-            moved[k] = false;
-        } else {
-            moved[k] = true;
-            all = joined(board, all, k);
+        if time != next {
+            due = joined(board, on, due, k);
         }
         k += 1;
     }
-    all
+    due
 }

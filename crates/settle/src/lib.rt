@@ -107,6 +107,6 @@ fn answer_in_order<'a>(
         (now (times .exit)) (now (scratch .exit))) × Prepared (now (board .entry)) n (now (scratch .exit)) ⌝ }
 {
     let limit = board::fields::pass_limit(board);
-    let passes = order_settling::run(board, n, limit, order, scratch);
+    let passes = settling::order::run(board, n, limit, order, scratch);
     conclude(board, n, passes, times, scratch)
 }

@@ -2,4 +2,5 @@
 pub mod Ends
 pub mod Counting
 pub mod Underway
+pub mod Turning
 pub mod Delivered

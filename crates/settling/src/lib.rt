@@ -1,8 +1,12 @@
-// The passes of a board, over a prepared scratch.
+// The passes of a board, over a prepared scratch: of all tasks together, or (`order`) in a chosen order.
 pub mod late;
+pub mod order;
 
+use chains::CHAIN_WORDS;
+use chains::MOST_CORES;
 use folds::words::clear;
 use one_pass::advance;
+use one_pass::due::make_cores;
 use one_pass::make_pass;
 ghost use mathlib.Core.Path.{_≡_};
 ghost use Prim.Native.Nat.{_-_, _≤_};
@@ -34,15 +38,18 @@ pub fn run(board: &[u32], n: usize, limit: u32, scratch: &mut [u32]) -> Passes
         × Prepared (now (board .entry)) n (now (scratch .exit)) ⌝ }
 {
     clear(n, scratch);
+    let mut links = [0u32; CHAIN_WORDS];
+    chains::make(board, n, &mut links);
+    let mut on = [0u64; MOST_CORES];
+    make_cores(board, n, &mut on);
+    let mut due = !0u64;
     let mut left = limit;
-    let mut moved = [true; 64];
-    let mut all: u32 = 9;
     'passes: loop {
         if left == 0 {
             break Passes::Over;
         }
         left -= 1;
-        make_pass(board, n, &moved, all, scratch);
+        make_pass(board, n, &links, due, scratch);
         let mut i = 0;
         'compare: loop {
             if i == n {
@@ -54,6 +61,6 @@ pub fn run(board: &[u32], n: usize, limit: u32, scratch: &mut [u32]) -> Passes
             }
             i += 1;
         }
-        all = advance(board, n, &mut moved, scratch);
+        due = advance(board, n, &on, scratch);
     }
 }

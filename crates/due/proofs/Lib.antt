@@ -1,2 +1,0 @@
--- Laws of the tasks that are due.
-pub mod DueTasks

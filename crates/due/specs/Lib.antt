@@ -1,2 +1,0 @@
--- Sets of tasks as bits of a word.
-pub mod DueTasks

@@ -1,2 +1,0 @@
--- Laws of the loop over passes in an order.
-pub mod Turning
