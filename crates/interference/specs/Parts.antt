@@ -1,12 +1,9 @@
 -- The six parts of a sum as the struct that the calls hand back.
 -- Assumes nothing.
 use Prim.Native.Nat.{ℕ}
-use mathlib.Core.Bool.{cond}
 use mathlib.Core.List.{List, [], _∷_}
-use lib.Dec.{eqb}
-use lib.ListN.{getD}
 use Rattle.sums.specs.Sums.{higherWork}
-use Rattle.sums.specs.SixParts.{ownWork, ownAccessPart, interferencePart, blockingPart, refreshPart, total}
+use Rattle.sums.specs.SixParts.{ownWork, ownAccessPart, interferencePart, blockingPart, refreshPart}
 use Rattle.interference.specs.declared.SumParts.{SumParts}
 
 -- task i at the times R
@@ -23,7 +20,3 @@ sumParts b R i = record {
 -- the six numbers of such a struct, in document 02's order
 abbrev pub listed : SumParts → List ℕ
 listed p = p .work ∷ p .higher ∷ p .own ∷ p .others ∷ p .blocking ∷ p .refresh ∷ []
-
--- for the code: the one at the index `which`, and all of them together where that is 6
-abbrev pub picked : SumParts → ℕ → ℕ
-picked p which = cond (eqb which 6) (total (listed p)) (getD (listed p) which 0)

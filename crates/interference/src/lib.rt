@@ -7,10 +7,11 @@ use terms::own::released;
 use terms::refresh::refreshes;
 use terms::rows::work;
 ghost use mathlib.Core.Path.{_≡_};
-ghost use Prim.Native.Nat.{_≤_, _<_, _^_};
+ghost use Prim.Native.Nat.{_<_, _^_};
 ghost use Rattle.sums.specs.SixParts.{total};
 ghost use Rattle.sums.specs.Inputs.{SumInput};
-ghost use Rattle.interference.specs.Parts.{sumParts, listed, picked};
+ghost use Rattle.interference.specs.declared.SumParts.{SumParts};
+ghost use Rattle.interference.specs.Parts.{sumParts, listed};
 
 mod bus;
 
@@ -68,23 +69,24 @@ pub fn six(parts: SumParts) -> [u64; 6]
     ]
 }
 
+// The parts that six numbers in that order are.
+pub fn parts_from(numbers: [u64; 6]) -> SumParts
+    ensures { λ r. ⌜ ((p : SumParts) → numbers ≡ listed p → r ≡ p) ⌝ }
+{
+    SumParts {
+        work: numbers[0],
+        higher: numbers[1],
+        own: numbers[2],
+        others: numbers[3],
+        blocking: numbers[4],
+        refresh: numbers[5],
+    }
+}
+
 // The parts added up: of the parts of a sum, that sum.
 pub fn add_parts(parts: SumParts) -> u64
     requires { ⌜ total (listed parts) < 2 ^ 64 ⌝ }
     ensures { λ r. ⌜ r ≡ total (listed parts) ⌝ }
 {
     parts.work + parts.higher + parts.own + parts.others + parts.blocking + parts.refresh
-}
-
-// The part at the index `which`, and the parts added up where that is 6.
-pub fn pick(parts: SumParts, which: usize) -> u64
-    requires { ⌜ (which ≤ 6) × (total (listed parts) < 2 ^ 64) ⌝ }
-    ensures { λ r. ⌜ r ≡ picked parts which ⌝ }
-{
-    if which == 6 {
-        add_parts(parts)
-    } else {
-        let all = six(parts);
-        all[which]
-    }
 }

@@ -3,7 +3,9 @@ use chains::CHAIN_WORDS;
 use figures::ECB_WORDS;
 use figures::row::place;
 use interference::SumParts;
-use interference::pick;
+use interference::add_parts;
+use interference::parts_from;
+use interference::six;
 ghost use mathlib.Core.Path.{_≡_};
 ghost use Prim.Native.Nat.{_≤_, _<_};
 ghost use lib.ListN.{length};
@@ -11,7 +13,7 @@ ghost use Rattle.figures.specs.Survey.{Held};
 ghost use Rattle.sums.specs.Sums.{taskSum};
 ghost use Rattle.sums.specs.Chains.{Linked};
 ghost use Rattle.sums.specs.Inputs.{CappedTimes};
-ghost use Rattle.interference.specs.Parts.{sumParts, picked};
+ghost use Rattle.interference.specs.Parts.{sumParts, listed};
 ghost use Rattle.folds.specs.Stored.{Stored};
 ghost use Rattle.scratch.specs.Scratch.{Room, RowAddable, withMD, Addable, Added, Prepared};
 
@@ -70,10 +72,12 @@ pub fn parts_of(board: &[u32], n: usize, scratch: &[u32], times: &[u32], i: usiz
 {
     let mut links = [0u32; CHAIN_WORDS];
     chains::make(board, n, &mut links);
-    parts_along(board, n, &links, scratch, times, i)
+    let mut parts = [0u64; 6];
+    parts_along(board, n, &links, scratch, times, i, &mut parts);
+    parts_from(parts)
 }
 
-// The sum along chains that are made already: for callers that sum many tasks.
+// The sum along links that are made already: for callers that sum many tasks.
 pub fn sum_along(
     board: &[u32],
     n: usize,
@@ -85,10 +89,11 @@ pub fn sum_along(
     requires { ⌜ (Prepared (now board) n (now scratch)) × (CappedTimes (now board) (now times)) × (i < n) × Linked (now board) (now links) ⌝ }
     ensures { λ r. ⌜ r ≡ taskSum (now (board .entry)) (now (times .entry)) i ⌝ }
 {
-    along(board, n, links, scratch, times, i, 6)
+    let mut parts = [0u64; 6];
+    parts_along(board, n, links, scratch, times, i, &mut parts)
 }
 
-// The parts along such chains, one after the other.
+// The sum along such links, with its parts. They go to a lent array, which the callers that need the sum alone do not read.
 fn parts_along(
     board: &[u32],
     n: usize,
@@ -96,32 +101,11 @@ fn parts_along(
     scratch: &[u32],
     times: &[u32],
     i: usize,
-) -> SumParts
-    requires { ⌜ (Prepared (now board) n (now scratch)) × (CappedTimes (now board) (now times)) × (i < n) × Linked (now board) (now links) ⌝ }
-    ensures { λ r. ⌜ r ≡ sumParts (now (board .entry)) (now (times .entry)) i ⌝ }
-{
-    SumParts {
-        work: along(board, n, links, scratch, times, i, 0),
-        higher: along(board, n, links, scratch, times, i, 1),
-        own: along(board, n, links, scratch, times, i, 2),
-        others: along(board, n, links, scratch, times, i, 3),
-        blocking: along(board, n, links, scratch, times, i, 4),
-        refresh: along(board, n, links, scratch, times, i, 5),
-    }
-}
-
-// The part of the sum of task i at the index `which`, and the sum where that is 6.
-fn along(
-    board: &[u32],
-    n: usize,
-    links: &[u32],
-    scratch: &[u32],
-    times: &[u32],
-    i: usize,
-    which: usize,
+    numbers: &mut [u64; 6],
 ) -> u64
-    requires { ⌜ (Prepared (now board) n (now scratch)) × (CappedTimes (now board) (now times)) × (i < n) × Linked (now board) (now links) × (which ≤ 6) ⌝ }
-    ensures { λ r. ⌜ r ≡ picked (sumParts (now (board .entry)) (now (times .entry)) i) which ⌝ }
+    requires { ⌜ (Prepared (now board) n (now scratch)) × (CappedTimes (now board) (now times)) × (i < n) × Linked (now board) (now links) ⌝ }
+    ensures { λ r. ⌜ (r ≡ taskSum (now (board .entry)) (now (times .entry)) i)
+        × (now (numbers .exit) ≡ listed (sumParts (now (board .entry)) (now (times .entry)) i)) ⌝ }
 {
     let own = place(n, i);
     let all = place(n, n - 1);
@@ -134,5 +118,6 @@ fn along(
         times,
         i,
     );
-    pick(parts, which)
+    *numbers = six(parts);
+    add_parts(parts)
 }

@@ -1,13 +1,43 @@
--- `scratch::parts_along` meets its contract: part by part.
+-- `scratch::parts_along` meets its contract: a prepared scratch holds what a sum takes.
 -- Assumes nothing.
+use mathlib.Core.Path.{ap, _∙_}
 use borrow.Author.Needs.{needs}
-use Rattle.interference.proofs.Parts.{parts-are}
+use Rattle.interference.specs.Parts.{listed}
+use Rattle.interference.proofs.Parts.{sumParts-add}
+use Rattle.scratch.proofs.Prepared.{sum-input, parts-fit}
 use Rattle.scratch.proofs.parts_along.Statement.{statement}
 use Rattle.scratch.proofs.parts_along.Tie as tie
 
 pub parts-along-spec : {M : Type 1} → statement M
 parts-along-spec =
     tie.close
-    (tie.spec (λ c κs. search needs) (λ c κs. search needs) (λ c κs. search needs) (λ c κs. search needs) (λ c κs. search needs) (λ c κs. search needs)
+    (tie.spec
+    (λ c κs. search needs)
+    (λ c. search needs)
+    (λ c κs. search needs)
+    (λ c. search needs)
+    (λ c. search needs)
+    (λ c. search needs)
+    (λ c. search needs)
+    (λ c. search needs)
+    (λ c. search needs)
+    (λ c. search needs)
+    (λ c. search needs)
+    (λ c. search needs)
+    (λ c. search needs)
+    (λ c. search needs)
+    (λ c. search needs)
+    (λ c. search needs)
+    (λ c. search needs)
+    (λ c. search needs)
+    (λ c. search needs)
+    (λ c κs.
+    let start = c .before .before .before .before .before .before .before .before .before in
+    sum-input (start .pre .0) (start .pre .3) (start .pre .1) (start .pre .2) (c .before .before .before .before .place .ensures) (c .before .before .before .place2 .ensures))
+    (λ c κs. search needs)
+    (λ c κs.
+    let start = c .before .before .before .before .before .before .before .before .before .before .before in
+    parts-fit (start .pre .0) (start .pre .1) (start .pre .2) (c .before .task-parts .ensures))
     (λ c.
-    parts-are (c .before .before .before .before .before .along .ensures) (c .before .before .before .before .along2 .ensures) (c .before .before .before .along3 .ensures) (c .before .before .along4 .ensures) (c .before .along5 .ensures) (c .along6 .ensures)))
+    let parts = c .before .before .task-parts .ensures in
+    (c .add-parts .ensures ∙ sumParts-add _ _ _ parts, c .before .six .ensures ∙ ap listed parts)))

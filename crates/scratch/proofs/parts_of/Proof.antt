@@ -6,4 +6,7 @@ use Rattle.scratch.proofs.parts_of.Statement.{statement}
 use Rattle.scratch.proofs.parts_of.Tie as tie
 
 pub parts-of-spec : {M : Type 1} → statement M
-parts-of-spec = tie.close (tie.spec (λ c κs. makeable (c .before .before .before .before .pre .0 .room)) (λ c. search needs) (λ c κs. search needs) (λ c. search needs))
+parts-of-spec =
+    tie.close
+    (tie.spec (λ c κs. makeable (c .before .before .before .before .pre .0 .room)) (λ c. search needs) (λ c κs. search needs) (λ c. search needs)
+    (λ c. c .parts-from .ensures _ (c .before .parts-along .ensures .1)))
