@@ -97,7 +97,8 @@ fn limited(w: &[u32], limit: u32) -> Vec<u32> {
     with_word(w, 12, limit)
 }
 
-/// Times of one pass: the differences of two runs with different limits, all spent.
+/// Times of one pass: the differences of two runs with different limits, all spent. The less comes before the passes the better they are told: of the largest
+/// boards, those without caches.
 fn per_pass(rounds: usize, w: &[u32], few: u32, many: u32, runs: impl Fn(&[u32]) -> Vec<Run<'_>>) -> Vec<Time> {
     let (short, long) = (limited(w, few), limited(w, many));
     differences(rounds, runs(&short), runs(&long)).into_iter().map(|time| Some(time? / (many - few) as f64)).collect()
@@ -232,12 +233,12 @@ fn climbing_put_off(bus: u32) -> Vec<u32> {
     with_put_off(&w, MOST_PUT_OFF)
 }
 
-/// Passes on boards with something, for each bus one that climbs and a largest one, one pass and all, beside the product's own with none, which `without`
-/// takes away, and beside the reference.
-fn beside_none(bench: &Bench, what: &str, boards: impl Fn(u32) -> [Vec<u32>; 2], without: impl Fn(&[u32]) -> Vec<u32>) {
+/// Passes on boards with something, for each bus one that climbs and a largest one of some memory, one pass and all, beside the product's own with none, which
+/// `without` takes away, and beside the reference.
+fn beside_none(bench: &Bench, what: &str, boards: impl Fn(u32, u32) -> [Vec<u32>; 2], without: impl Fn(&[u32]) -> Vec<u32>) {
     println!("{what}, one pass of 64 tasks on 8 cores: the product, itself with none, `plain with tests`, `fast`");
     for bus in 0..5 {
-        let [climbing, largest] = boards(bus);
+        let [climbing, largest] = boards(bus, 0);
         line(bench, &format!("  bus {bus}, many short times"), |rounds| per_pass(rounds, &climbing, 500, 2_500, |w| analyses_beside(w, without(w))));
         let least = passes(&largest).min(passes(&without(&largest)));
         let most = least.saturating_sub(1).max(4) as u32;
@@ -245,7 +246,7 @@ fn beside_none(bench: &Bench, what: &str, boards: impl Fn(u32) -> [Vec<u32>; 2],
     }
     println!("{what}, whole Analyse (passes; with none): the same four");
     for bus in 0..5 {
-        let [_, w] = boards(bus);
+        let [_, w] = boards(bus, 2);
         let none = without(&w);
         let what = format!("  largest, bus {bus}, memory 2, passes {}; {}", passes(&w), passes(&none));
         line(bench, &what, |rounds| best(rounds, analyses_beside(&w, none)));
@@ -253,14 +254,15 @@ fn beside_none(bench: &Bench, what: &str, boards: impl Fn(u32) -> [Vec<u32>; 2],
 }
 
 fn put_off(bench: &Bench) {
-    let boards = |bus: u32| [climbing_put_off(bus), largest_edge_put_off(77, 2, bus, 8, MOST_PUT_OFF)];
+    let boards = |bus: u32, memory: u32| [climbing_put_off(bus), largest_edge_put_off(77, memory, bus, 8, MOST_PUT_OFF)];
     beside_none(bench, "eight refreshes put off", boards, |w| with_put_off(w, 0));
 }
 
 /// Of the boards that climb, tasks with a deadline below 8 have no jitter; the largest ones have times.
 fn jitter(bench: &Bench) {
     let eighth = |d: u32| d / 8;
-    let boards = |bus: u32| [with_jitter(&climbing_board(64, 8, 20_000, bus, 1_000_000), eighth), largest_edge_with_jitter(77, 2, bus, 8, eighth)];
+    let climbing = |bus: u32| with_jitter(&climbing_board(64, 8, 20_000, bus, 1_000_000), eighth);
+    let boards = |bus: u32, memory: u32| [climbing(bus), largest_edge_with_jitter(77, memory, bus, 8, eighth)];
     beside_none(bench, "jitter of an eighth of each deadline", boards, |w| with_jitter(w, |_| 0));
 }
 
@@ -271,7 +273,7 @@ fn in_order(bench: &Bench) {
         let w = climbing_board(64, 8, 20_000, bus, 1_000_000);
         let order = orders::core_by_core(&w, 64);
         line(bench, &format!("  bus {bus}, many short times"), |rounds| per_pass(rounds, &w, 500, 2_500, |w| analyses_in_order(w, &order)));
-        let w = largest_edge(77, 2, bus, 8, 0);
+        let w = largest_edge(77, 0, bus, 8, 0);
         let order = orders::core_by_core(&w, 64);
         let most = passes_in_order(&w, &order).saturating_sub(1).max(4) as u32;
         line(bench, &format!("  bus {bus}, largest board"), |rounds| per_pass(rounds, &w, 2, most, |w| analyses_in_order(w, &order)));
@@ -331,7 +333,7 @@ fn main() {
     for bus in 0..5 {
         let w = climbing_board(64, 8, 20_000, bus, 1_000_000);
         line(bench, &format!("  bus {bus}, many short times"), |rounds| per_pass(rounds, &w, 500, 2_500, analyses));
-        let w = largest_edge(77, 2, bus, 8, 0);
+        let w = largest_edge(77, 0, bus, 8, 0);
         let most = passes(&w).saturating_sub(1).max(4) as u32;
         line(bench, &format!("  bus {bus}, largest board"), |rounds| per_pass(rounds, &w, 2, most, analyses));
     }
