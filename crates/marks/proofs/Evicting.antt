@@ -11,7 +11,7 @@ use Rattle.folds.specs.Folds.{anyTo}
 use Rattle.folds.proofs.Folds.{anyTo-none, anyTo-next}
 use Rattle.bitset.specs.Bits.{member, wordsOf}
 use Rattle.bitset.proofs.Sets.{wordsOf-cong, member-wordsOf}
-use Rattle.accesses.proofs.Touched.{join-none}
+use Rattle.marks.proofs.Touched.{join-none}
 
 -- ---- words with f 0 .. f (n - 1) added, one after the other
 

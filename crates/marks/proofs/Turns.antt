@@ -30,8 +30,8 @@ use Rattle.trace.specs.Slots.{loadAt, touches}
 use Rattle.trace.proofs.Caches.{placeIn-low}
 use Rattle.trace.proofs.Slots.{fetch-slot, read-slot}
 use Rattle.trace.proofs.Touched.{evicts-is}
-use Rattle.accesses.specs.Accesses.{readSlot, dataTouches}
-use Rattle.accesses.proofs.Steps.{read-none, read-load, read-small}
+use Rattle.marks.specs.Accesses.{readSlot, dataTouches}
+use Rattle.marks.proofs.Steps.{read-none, read-load, read-small}
 
 -- with w ways: the slots of the instructions before p are scanned, and the loads that miss
 abbrev pub ScannedTo : Trace → ℕ → ℕ → List ℕ → List ℕ → ℕ → Type 0

@@ -1,4 +1,7 @@
 // The scan of a trace under a cache or two: MD, the places that it touches, and a mark for each of its slots.
+mod accesses;
+mod loads;
+
 use accesses::mark_data;
 use accesses::mark_load;
 use board::fields;

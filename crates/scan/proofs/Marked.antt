@@ -26,7 +26,7 @@ use Rattle.trace.specs.Traces.{Trace, useful, usefulAt, mostUseful}
 use Rattle.trace.specs.Slots.{loadAt}
 use Rattle.trace.proofs.Caches.{place-low, place-low-one}
 use Rattle.trace.proofs.Sets.{usefulAt-places, usefulAt-one-cache, useful-slot}
-use Rattle.useful.specs.Levels.{Turning, atPoint, Levels}
+use Rattle.scan.specs.Levels.{Turning, atPoint, Levels}
 use Rattle.scan.specs.Caches.{cachesOf}
 
 module _ (c : ℕ) (place : ℕ → ℕ) (ways : ℕ) (l : ℕ → ℕ) (low : (m : ℕ) → place m < setsOf c) where

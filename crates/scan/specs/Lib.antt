@@ -1,3 +1,4 @@
--- The caches of a board, and what the scan of a trace finds.
+-- The caches of a board, the numbers of useful blocks from slot to slot, and what the scan of a trace finds.
 pub mod Caches
+pub mod Levels
 pub mod Found

@@ -1,5 +1,6 @@
 // One trace of a task: PD, MD and ECB, and what its useful blocks add to a row of overheads.
 mod points;
+mod useful;
 
 use board::fields;
 use figures::ECB_WORDS;

@@ -1,4 +1,5 @@
 // The points of a trace under a cache or two: their useful blocks raise the row of overheads.
+use super::useful;
 use board::fields;
 use figures::ECB_WORDS;
 ghost use mathlib.Core.Path.{_≡_};
@@ -8,7 +9,7 @@ ghost use Rattle.folds.specs.Folds.{maxTo};
 ghost use Rattle.board.specs.Layout.{ways};
 ghost use Rattle.board.specs.Sound.{Sound, Between};
 ghost use Rattle.counts.specs.Planes.{setsOf, largest};
-ghost use Rattle.useful.specs.Levels.{Turning, atPoint, Levels};
+ghost use Rattle.scan.specs.Levels.{Turning, atPoint, Levels};
 ghost use Rattle.figures.specs.Ready.{Ready};
 ghost use Rattle.figures.specs.Overhead.{evictedBy};
 ghost use Rattle.figures.specs.Rows.{Evicted, onCoreOf, raised};

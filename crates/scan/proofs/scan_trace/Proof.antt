@@ -11,7 +11,7 @@ use Rattle.board.specs.Layout.{memory, core}
 use Rattle.trace.specs.Traces.{Trace, traceOf, tracePD, traceMD, evicts}
 use Rattle.trace.proofs.Sets.{evicts-plain, mostUseful-plain}
 use Rattle.trace.proofs.Starts.{starts-lies, starts-trace}
-use Rattle.accesses.proofs.Touched.{join-none}
+use Rattle.marks.proofs.Touched.{join-none}
 use Rattle.figures.specs.Overhead.{evictedBy}
 use Rattle.figures.proofs.Rows.{raised-none}
 use Rattle.scan.proofs.scan_trace.Statement.{statement}

@@ -21,7 +21,7 @@ use Rattle.trace.specs.Places.{traceAt, Lies}
 use Rattle.trace.proofs.Starts.{starts-lies, starts-trace}
 use Rattle.figures.specs.Overhead.{evictedBy}
 use Rattle.counts.specs.Planes.{setsOf}
-use Rattle.useful.specs.Levels.{Levels}
+use Rattle.scan.specs.Levels.{Levels}
 use Rattle.scan.specs.Caches.{cachesOf}
 use Rattle.scan.proofs.Marked.{marked-turning, marked-levels, before, place-few, most-useful}
 use Rattle.scan.proofs.under_cache.Statement.{statement}

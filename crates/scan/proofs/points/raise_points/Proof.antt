@@ -8,7 +8,7 @@ use native.Mathlib.Omega.{arith}
 use denote.Ref.{now}
 use Rattle.folds.specs.Folds.{onlyIf, maxTo}
 use Rattle.counts.specs.Planes.{setsOf, largest}
-use Rattle.useful.specs.Levels.{Turning, atPoint, Levels}
+use Rattle.scan.specs.Levels.{Turning, atPoint, Levels}
 use Rattle.figures.specs.Overhead.{evictedBy}
 use Rattle.figures.specs.Rows.{onCoreOf, raised}
 use Rattle.figures.proofs.Rows.{raised-none}

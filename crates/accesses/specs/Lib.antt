@@ -1,2 +1,0 @@
--- The data access of an instruction.
-pub mod Accesses

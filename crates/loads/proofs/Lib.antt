@@ -1,3 +1,0 @@
--- The laws of a load.
-pub mod Steps
-pub mod Single

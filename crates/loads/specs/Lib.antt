@@ -1,2 +1,0 @@
--- The buffers that a load works in.
-pub mod Room

@@ -1,2 +1,0 @@
--- The numbers of useful blocks from slot to slot.
-pub mod Levels
