@@ -38,6 +38,14 @@ pub fn memory(board: &[u32]) -> u32
     board[4]
 }
 
+// The number of its caches: none with a scratchpad.
+pub fn cache_count(board: &[u32]) -> u32
+    requires { ⌜ Sound (now board) ⌝ }
+    ensures { λ r. ⌜ (r ≡ at.cacheCount (now (board .entry))) × (r ≤ 2) ⌝ }
+{
+    larger(memory(board), 1) - 1
+}
+
 // 0 fixed-priority, 1 processor-priority, 2 FIFO, 3 round-robin, 4 TDMA.
 pub fn bus(board: &[u32]) -> u32
     requires { ⌜ Sound (now board) ⌝ }

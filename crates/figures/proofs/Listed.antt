@@ -47,26 +47,26 @@ module _ (b : List ℕ) (i : ℕ) where
       ⊎-elim (λ (e : q ≡ m). ap (λ (k : ℕ). getD (set list m x) k 0) e ∙ getD-set-same list m x 0 room ∙ is ∙ ap (higherAt b i) (sym e))
       (λ (less : q < m). getD-set-other list m q x 0 (λ e. omega arith) ∙ each q less) (eq-or-lt-of-le h)
 
-  pub listing-turn : (j m m' : ℕ) (here : Bool) (list : List ℕ) → 0 < j → m < length list → here ≡ sameCore b i (j - 1) → m' ≡ m + onlyIf here 1
-      → Listing j m list → Listing (j - 1) m' (set list m j)
-  listing-turn j m m' here list some room e e' so-far = go here e e'
-    where
-      last : j - 1 + 1 ≡ j
-      last = omega arith
+  -- task j - 1 is on the core or not: the word of task j stays, or is written again
+  module _ (j m : ℕ) (list : List ℕ) (some : 0 < j) (so-far : Listing j m list) where
+    last : j - 1 + 1 ≡ j
+    last = omega arith
 
-      go : (here : Bool) → here ≡ sameCore b i (j - 1) → m' ≡ m + onlyIf here 1 → Listing (j - 1) m' (set list m j)
-      go true e e' =
-          let own : j ≡ higherAt b i m = sym (so-far .next ∙ ap (lastTo (sameCore b i)) (sym last) ∙ lastTo-here (sameCore b i) (j - 1) (sym e) ∙ last) in
-          record {
-            few = omega (arith, so-far .few);
-            each = λ q h. word-more list m j room (so-far .each) own q (omega arith);
-            next = ap (higherAt b i) e' ∙ higher-next m ∙ ap (λ (k : ℕ). lastTo (sameCore b i) (k - 1)) (sym own);
-          }
-      go false e e' = record {
-        few = omega (arith, so-far .few);
-        each = λ q h. getD-set-other list m q j 0 (λ z. omega arith) ∙ so-far .each q (omega arith);
-        next = ap (higherAt b i) (let z : m' ≡ m = omega arith in z) ∙ so-far .next ∙ ap (lastTo (sameCore b i)) (sym last) ∙ lastTo-other (sameCore b i) (j - 1) (sym e);
-      }
+    pub listing-on : m < length list → sameCore b i (j - 1) ≡ true → Listing (j - 1) (m + 1) (set list m j)
+    listing-on room e =
+        let own : j ≡ higherAt b i m = sym (so-far .next ∙ ap (lastTo (sameCore b i)) (sym last) ∙ lastTo-here (sameCore b i) (j - 1) e ∙ last) in
+        record {
+          few = omega (arith, so-far .few);
+          each = λ q h. word-more list m j room (so-far .each) own q (omega arith);
+          next = higher-next m ∙ ap (λ (k : ℕ). lastTo (sameCore b i) (k - 1)) (sym own);
+        }
+
+    pub listing-off : sameCore b i (j - 1) ≡ false → Listing (j - 1) m (set list m j)
+    listing-off e = record {
+      few = omega (arith, so-far .few);
+      each = λ q h. getD-set-other list m q j 0 (λ z. omega arith) ∙ so-far .each q h;
+      next = so-far .next ∙ ap (lastTo (sameCore b i)) (sym last) ∙ lastTo-other (sameCore b i) (j - 1) e;
+    }
 
   pub listing-end : (j m : ℕ) (list : List ℕ) → j ≡ 0 → m < length list → Listing j m list → Higher b i (set list m 0)
   listing-end j m list e room all =

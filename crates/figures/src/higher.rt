@@ -1,38 +1,27 @@
 // The higher tasks on the core of a task, as a list.
 use board::fields;
 ghost use mathlib.Core.Path.{_≡_};
-ghost use mathlib.Core.Bool.{true};
-ghost use Prim.Native.Nat.{_+_, _≤_, _<_};
+ghost use Prim.Native.Nat.{_≤_, _<_};
 ghost use lib.ListN.{length};
-ghost use Rattle.folds.specs.Folds.{onlyIf};
 ghost use Rattle.figures.specs.Ready.{Ready};
 ghost use Rattle.figures.specs.Rows.{sameCore};
 ghost use Rattle.figures.specs.Higher.{Higher};
 
-// Lists the tasks above task i on its core where the test holds, by their numbers from 1, the lowest first, and 0 after the last.
-pub fn list_if(test: bool, board: &[u32], i: usize, higher: &mut [u32])
+// Lists the tasks above task i on its core, by their numbers from 1, the lowest first, and 0 after the last.
+pub fn list(board: &[u32], i: usize, higher: &mut [u32])
     requires { ⌜ (Ready (now board) i) × (64 ≤ length (now higher)) ⌝ }
-    ensures { λ _. ⌜ (test ≡ true → Higher (now (board .entry)) i (now (higher .exit))) ⌝ }
+    ensures { λ _. ⌜ Higher (now (board .entry)) i (now (higher .exit)) ⌝ }
 {
-    if !test {
-        return;
-    }
     let mut m: usize = 0;
     let mut j = i;
     while 0 < j {
         higher[m] = j as u32;
         j -= 1;
-        m = next_if(on_core_of(board, i, j), m);
+        if on_core_of(board, i, j) {
+            m += 1;
+        }
     }
     higher[m] = 0;
-}
-
-// The next place where the test holds, and the same one where not.
-fn next_if(test: bool, m: usize) -> usize
-    requires { ⌜ m < 64 ⌝ }
-    ensures { λ r. ⌜ r ≡ m + onlyIf test 1 ⌝ }
-{
-    if test { m + 1 } else { m }
 }
 
 // Whether tasks i and j are on one core.

@@ -7,7 +7,6 @@ use folds::larger;
 ghost use mathlib.Core.Path.{_≡_};
 ghost use Prim.Native.Nat.{ℕ, _+_, _*_, _<_, _≤_, max};
 ghost use lib.ListN.{length, getD, set};
-ghost use Rattle.folds.specs.Folds.{onlyIf};
 ghost use Rattle.board.specs.Layout.{mostTasks, scratchWords, mostScratch};
 ghost use Rattle.board.specs.Sound.{Between};
 ghost use Rattle.bitset.specs.Bits.{member};
@@ -26,10 +25,9 @@ pub fn place(n: usize, i: usize) -> usize
     4 * n + i * n
 }
 
-// Raises the row by a point of task i where the test holds, for each task j above it on its core: by the useful blocks of the point in the sets evicted by j.
+// Raises the row by a point of task i, for each task j above it on its core: by the useful blocks of the point in the sets evicted by j.
 // `live` has their numbers. The lowest task is first: the higher ones on the core evict no more than it.
-pub fn raise_if(
-    test: bool,
+pub fn raise(
     board: &[u32],
     i: usize,
     higher: &[u32; 64],
@@ -42,11 +40,8 @@ pub fn raise_if(
     requires { ⌜ (Ready (now board) i) × (Higher (now board) i (now higher)) × (Evicted (now board) i (now evicted)) × (Between 1 2 caches) × (planes ≤ 4)
         × (4 * (planes * caches) ≤ length (now live)) ⌝ }
     ensures { λ _. ⌜ now (row .exit) ≡ raised (onCoreOf (now (board .entry)) i
-        (λ (j : ℕ). onlyIf test (countBy caches (now (live .entry)) planes (evictedBy (now (board .entry)) j)))) i (now (row .entry)) ⌝ }
+        (λ (j : ℕ). countBy caches (now (live .entry)) planes (evictedBy (now (board .entry)) j))) i (now (row .entry)) ⌝ }
 {
-    if !test {
-        return;
-    }
     let mut most: u32 = MOST_COUNTED;
     let mut q: usize = 0;
     let mut k = index(higher[0]);

@@ -14,7 +14,7 @@ ghost use mathlib.Core.Bool.{_||_};
 ghost use Prim.Native.Nat.{ℕ, _*_, _≤_};
 ghost use lib.ListN.{length};
 ghost use Rattle.bitset.specs.Bits.{member, wordsOf};
-ghost use Rattle.board.specs.Layout.{memory, ways};
+ghost use Rattle.board.specs.Layout.{cacheCount, ways};
 ghost use Rattle.board.specs.Sound.{Sound};
 ghost use Rattle.entries.specs.Marks.{Marked, AllEarlier, nextBase};
 ghost use Rattle.trace.specs.Cache.{placeOf};
@@ -22,10 +22,11 @@ ghost use Rattle.trace.specs.Traces.{traceMD, evicts};
 ghost use Rattle.trace.specs.Places.{traceAt, Lies};
 ghost use Rattle.trace.specs.Slots.{loadAt};
 
-// MD of a trace: its loads that miss, and its writes. The places of all blocks that it touches are added to `ecb`, and each of its slots is marked.
-// `held` is room for the blocks of all places; it may have what earlier traces left there, since `base` is another for each trace.
+// MD of a trace of a board with `count` caches: its loads that miss, and its writes. The places of all blocks that it touches are added to `ecb`, and each of its
+// slots is marked. `held` is room for the blocks of all places; it may have what earlier traces left there, since `base` is another for each trace.
 pub fn mark_trace(
     board: &[u32],
+    count: usize,
     start: usize,
     len: usize,
     base: u64,
@@ -33,14 +34,14 @@ pub fn mark_trace(
     ecb: &mut [u64],
     marks: &mut [u32],
 ) -> u32
-    requires { ⌜ (Sound (now board)) × (Lies (now board) start len) × (2 ≤ memory (now board)) × (base ≤ 67108864) × (AllEarlier base (now held))
-        × (4096 ≤ length (now held)) × (length (now ecb) ≡ 8) × (2048 ≤ length (now marks)) ⌝ }
+    requires { ⌜ (Sound (now board)) × (Lies (now board) start len) × (count ≡ cacheCount (now board)) × (1 ≤ count) × (base ≤ 67108864)
+        × (AllEarlier base (now held)) × (4096 ≤ length (now held)) × (length (now ecb) ≡ 8) × (2048 ≤ length (now marks)) ⌝ }
     ensures { λ r. ⌜ (r ≡ traceMD (traceAt (now (board .entry)) start len))
         × (Marked (placeOf (now (board .entry))) (ways (now (board .entry))) (loadAt (traceAt (now (board .entry)) start len)) (now (marks .exit)) (2 * len))
         × (now (ecb .exit) ≡ wordsOf 8 (λ (s : ℕ). member (now (ecb .entry)) s || evicts (traceAt (now (board .entry)) start len) s))
         × (AllEarlier (nextBase base) (now (held .exit))) ⌝ }
 {
-    let caches = caches_of(board);
+    let caches = caches_of(board, count);
     let code = caches.code;
     let data = caches.data;
     let ways = index(fields::ways(board));

@@ -1,4 +1,3 @@
--- The caches of a board, the numbers of useful blocks from slot to slot, and what the scan of a trace finds.
-pub mod Caches
+-- The numbers of useful blocks from slot to slot, and what the scan of a trace finds.
 pub mod Levels
 pub mod Found

@@ -4,7 +4,7 @@ use bitset::records::write;
 use board::MOST_SCRATCH;
 use board::fields;
 use figures::ECB_WORDS;
-use figures::higher::list_if;
+use figures::higher;
 use figures::row;
 use folds::index;
 use folds::larger;
@@ -17,7 +17,7 @@ ghost use mathlib.Core.Bool.{true};
 ghost use Prim.Native.Nat.{ℕ, _+_, _*_, _<_, _≤_};
 ghost use lib.ListN.{length};
 ghost use Rattle.bitset.specs.Bits.{wordsOf};
-ghost use Rattle.board.specs.Layout.{tasks, scratchWords};
+ghost use Rattle.board.specs.Layout.{tasks, cacheCount, scratchWords};
 ghost use Rattle.board.specs.Sound.{Sound};
 ghost use Rattle.entries.specs.Marks.{AllEarlier, baseOf};
 ghost use Rattle.trace.specs.Starts.{At};
@@ -42,6 +42,7 @@ pub fn survey(
         × (length (now (words .exit)) ≡ length (now (words .entry))) ⌝ }
 {
     let n = index(fields::tasks(board));
+    let caches = index(fields::cache_count(board));
     let mut cores = [0u64; 72];
     let mut evicted = [0u64; ECB_WORDS];
     let mut row = [0u32; 64];
@@ -53,6 +54,7 @@ pub fn survey(
     while i < count {
         let task = survey_task(
             board,
+            caches,
             i,
             at,
             rows,
@@ -94,6 +96,7 @@ struct Task {
 // has the sets that each of those evicts, and `higher` is room to list them in.
 fn survey_task(
     board: &[u32],
+    caches: usize,
     i: usize,
     first: Cursor,
     rows: bool,
@@ -104,7 +107,7 @@ fn survey_task(
     higher: &mut [u32; 64],
 ) -> Task
     requires { ⌜ (Ready (now board) i) × (At (now board) i 0 (first .trace) (first .start)) × (Evicted (now board) i (now ecbs))
-        × (AllEarlier (baseOf (first .trace)) (now held)) ⌝ }
+        × (AllEarlier (baseOf (first .trace)) (now held)) × (caches ≡ cacheCount (now board)) ⌝ }
     ensures { λ r. ⌜ (r .pd ≡ taskPD (now (board .entry)) i) × (r .md ≡ taskMD (now (board .entry)) i) × (r .ecb ≡ wordsOf 8 (evicting (now (board .entry)) i))
         × (At (now (board .entry)) (i + 1) 0 (r .next .trace) (r .next .start))
         × (rows ≡ true → now (row .exit) ≡ raised (onCoreOf (now (board .entry)) i (λ (j : ℕ). reloads (now (board .entry)) j i)) i (now (row .entry)))
@@ -115,11 +118,24 @@ fn survey_task(
     let mut pd: u32 = 0;
     let mut md: u32 = 0;
     let mut ecb = bitset::empty();
-    let kind = fields::memory(board);
-    list_if(rows & (2 <= kind), board, i, higher);
+    if rows & (1 <= caches) {
+        higher::list(board, i, higher);
+    }
     let mut r: u32 = 0;
     while r < count {
-        let found = scan_trace(board, i, at, rows, higher, ecbs, &mut ecb, row, held, marks);
+        let found = scan_trace(
+            board,
+            caches,
+            i,
+            at,
+            rows,
+            higher,
+            ecbs,
+            &mut ecb,
+            row,
+            held,
+            marks,
+        );
         pd = larger(pd, found.pd);
         md = larger(md, found.md);
         at = cursor::next(board, at);

@@ -5,7 +5,7 @@ use folds::index;
 use folds::wide;
 ghost use mathlib.Core.Path.{_≡_};
 ghost use Prim.Native.Nat.{_<_, _≤_};
-ghost use Rattle.board.specs.Layout.{memory, mostSets};
+ghost use Rattle.board.specs.Layout.{cacheCount, mostSets};
 ghost use Rattle.board.specs.Sound.{Sound, Between};
 ghost use Rattle.trace.specs.Cache.{allSets};
 ghost use Rattle.trace.specs.Caches.{placeIn, Placing, CachesOf};
@@ -23,14 +23,13 @@ pub struct Caches {
     pub data: Cache,
 }
 
-// The caches of a board: one for code and data, or the data cache's places after all that the code cache may have.
-pub fn caches_of(board: &[u32]) -> Caches
-    requires { ⌜ (Sound (now board)) × (2 ≤ memory (now board)) ⌝ }
+// The caches of a board that has `count` of them: one for code and data, or the data cache's places after all that the code cache may have.
+pub fn caches_of(board: &[u32], count: usize) -> Caches
+    requires { ⌜ (Sound (now board)) × (count ≡ cacheCount (now board)) × (1 ≤ count) ⌝ }
     ensures { λ r. ⌜ CachesOf (now (board .entry)) (r .code) (r .data) ⌝ }
 {
     let code = cache_at(0, fields::cache_sets(board));
-    let kind = fields::memory(board);
-    if kind == 3 {
+    if count == 2 {
         let data = cache_at(MOST_SETS, fields::data_sets(board));
         Caches { code, data }
     } else {

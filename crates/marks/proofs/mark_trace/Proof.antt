@@ -26,13 +26,13 @@ use Rattle.marks.proofs.mark_trace.Statement.{statement}
 use Rattle.marks.proofs.mark_trace.Tie as tie
 
 abbrev Inv : tie.InvT-loop
-Inv board start len base held₀ ecb₀ marks₀ code datum ways n₀ p₀ held ecb marks n p =
+Inv board count start len base held₀ ecb₀ marks₀ code datum ways n₀ p₀ held ecb marks n p =
     (p ≤ len) × (n ≡ countTo (misses (traceAt board start len) ways) (2 * p) + countTo (writes (traceAt board start len)) p)
     × (length held ≡ length held₀) × (ecb ≡ added (touches (traceAt board start len) (placeOf board)) ecb₀ p)
     × ScannedTo (traceAt board start len) ways base held marks p × (length marks ≡ length marks₀)
 
 abbrev μ : tie.MeasureT-loop
-μ board start len base held₀ ecb₀ marks₀ code datum ways n₀ p₀ held ecb marks n p = len - p
+μ board count start len base held₀ ecb₀ marks₀ code datum ways n₀ p₀ held ecb marks n p = len - p
 
 -- the trace, its caches and its ways, wherever the loop stands
 module _ (c : tie.After-index Inv μ) where
@@ -65,8 +65,8 @@ holds c =
       omega arith,
       omega (arith, countTo-none (misses t (c .index .result)), countTo-none (writes t)),
       refl,
-      added-none (touches t (placeOf (now (a .board)))) (now (a .ecb)) (start .pre .6) (c .before .before .before .before .before .before .slice-known2 .given),
-      scan-start t (c .index .result) (a .base) (code c) (datum c) (caches c) (now (a .held)) (now (a .marks)) (start .pre .5) (few c) (start .pre .7) (start .pre .4),
+      added-none (touches t (placeOf (now (a .board)))) (now (a .ecb)) (start .pre .7) (c .before .before .before .before .before .before .slice-known2 .given),
+      scan-start t (c .index .result) (a .base) (code c) (datum c) (caches c) (now (a .held)) (now (a .marks)) (start .pre .6) (few c) (start .pre .8) (start .pre .5),
       refl,
     )
 
@@ -76,9 +76,9 @@ load-requires c κs =
     let start = top (at .before) in (
       caches (at .before) .code-placing,
       record {
-        low = start .pre .3;
+        low = start .pre .4;
         few = few (at .before);
-        entries = omega (arith, at .loop .inv .2, start .pre .5);
+        entries = omega (arith, at .loop .inv .2, start .pre .6);
         slots = at .loop .inv .4 .1;
       },
       ap length (at .loop .inv .3) ∙ wordsOf-length 8 _,
@@ -116,9 +116,9 @@ data-requires c κs =
     let kept = loaded .mark-load .kept in (
       caches (at .before) .data-placing,
       record {
-        low = start .pre .3;
+        low = start .pre .4;
         few = few (at .before);
-        entries = omega (arith, kept .1 .1 .1 .1 .1 .0, at .loop .inv .2, start .pre .5);
+        entries = omega (arith, kept .1 .1 .1 .1 .1 .0, at .loop .inv .2, start .pre .6);
         slots = omega (arith, kept .1 .1 .1 .1 .1 .1 .1 .0, at .loop .inv .4 .1);
       },
       ap length (loaded .mark-load .ensures .3) ∙ wordsOf-length 8 _,
@@ -179,7 +179,7 @@ again c =
     )
 
 ecb-length : tie.Need-same-length-2 Inv μ
-ecb-length c = ap length (c .before .loop .inv .3) ∙ wordsOf-length 8 _ ∙ sym (top (c .before .before) .pre .6)
+ecb-length c = ap length (c .before .loop .inv .3) ∙ wordsOf-length 8 _ ∙ sym (top (c .before .before) .pre .7)
 
 returns : tie.Need-returns Inv μ
 returns c =
@@ -189,11 +189,11 @@ returns c =
     let t : Trace = trace (at .before) in
     let end : at .loop .p ≡ a .len = omega (arith, at .loop .inv .0, c .loop-test .left) in
     let w = way (at .before) in (
-      at .loop .inv .1 ∙ ap₂ (λ (w p : ℕ). countTo (misses t w) (2 * p) + countTo (writes t) p) w end ∙ traceMD-cached t (omega (arith, start .pre .2)),
+      at .loop .inv .1 ∙ ap₂ (λ (w p : ℕ). countTo (misses t w) (2 * p) + countTo (writes t) p) w end ∙ traceMD-cached t (omega (arith, start .pre .2, start .pre .3)),
       subst (λ (w : ℕ). Marked (placeOf (now (a .board))) w (loadAt t) (at .loop .marks) (2 * a .len)) w
           (subst (λ (p : ℕ). Marked (placeOf (now (a .board))) (at .before .index .result) (loadAt t) (at .loop .marks) (2 * p)) end (at .loop .inv .4 .3)),
       at .loop .inv .3 ∙ ap (added (touches t (placeOf (now (a .board)))) (now (a .ecb))) end
-          ∙ evict-words t (now (a .ecb)) (omega (arith, start .pre .2)) (kind-bound _ _ _ (start .pre .0) (start .pre .1)),
+          ∙ evict-words t (now (a .ecb)) (omega (arith, start .pre .2, start .pre .3)) (kind-bound _ _ _ (start .pre .0) (start .pre .1)),
       at .loop .inv .4 .4,
     )
 

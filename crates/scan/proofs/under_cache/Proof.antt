@@ -22,7 +22,6 @@ use Rattle.trace.proofs.Starts.{starts-lies, starts-trace}
 use Rattle.figures.specs.Overhead.{evictedBy}
 use Rattle.counts.specs.Planes.{setsOf}
 use Rattle.scan.specs.Levels.{Levels}
-use Rattle.scan.specs.Caches.{cachesOf}
 use Rattle.scan.proofs.Marked.{marked-turning, marked-levels, before, place-few, most-useful}
 use Rattle.scan.proofs.under_cache.Statement.{statement}
 use Rattle.scan.proofs.under_cache.Tie as tie
@@ -60,6 +59,7 @@ asks c κs =
       s .pre .0 .sound,
       lie read,
       s .pre .5,
+      s .pre .6,
       omega (arith, s .pre .1 .trace, s .pre .0 .sound .traces),
       s .pre .3,
       omega (arith, held-length c),
@@ -73,16 +73,16 @@ module _ (c : tie.After-mark-trace) where
   read = c .before .before .before .before .before
 
   abbrev caches : ℕ
-  caches = cachesOf (now (start read .args .board))
+  caches = start read .args .caches
 
   low : (m : ℕ) → placeOf (now (start read .args .board)) m < setsOf caches
-  low = place-few (trace read) (start read .pre .0 .sound) (start read .pre .5)
+  low = place-few (trace read) (start read .pre .0 .sound) caches (start read .pre .5) (start read .pre .6)
 
   abbrev marks : List ℕ
-  marks = c .mark-trace .last .1 .1 .1 .1 .1 .1 .0
+  marks = c .mark-trace .last .1 .1 .1 .1 .1 .1 .1 .0
 
   marks-room : length marks ≡ 2048
-  marks-room = c .mark-trace .kept .1 .1 .1 .1 .1 .1 .0 ∙ marks-length (c .before)
+  marks-room = c .mark-trace .kept .1 .1 .1 .1 .1 .1 .1 .0 ∙ marks-length (c .before)
 
   levels : Levels caches marks (2 * read .index .result) (ways (now (start read .args .board)))
   levels = marked-levels _ _ _ _ low marks _ (c .mark-trace .ensures .1)
@@ -92,15 +92,15 @@ raises c κs =
     let wanted = c .before .before .before in
     let found = wanted .before .before .before in
     let s = start (read found) in
-    (s .pre .0, s .pre .6 (wanted .if1 .taken), s .pre .2, levels found, lie (read found) .short, omega (arith, marks-room found, lie (read found) .short))
+    (s .pre .0, s .pre .7 (wanted .if1 .taken), s .pre .2, levels found, (s .pre .6, omega (arith, s .pre .5, s .pre .0 .sound .memory)), lie (read found) .short, omega (arith, marks-room found, lie (read found) .short))
 
 -- PD, MD, the evicting cache blocks, and the blocks held
 four : (c : tie.After-mark-trace)
     → let s = start (read c) in
     let t = traceOf (now (s .args .board)) (s .args .at .trace) in
     (c .before .before .before .before .pd .result ≡ tracePD t) × (c .mark-trace .result ≡ traceMD t)
-    × (c .mark-trace .last .1 .1 .1 .1 .1 .0 ≡ wordsOf 8 (λ s'. member (now (s .args .ecb)) s' || evicts t s'))
-    × AllEarlier (baseOf (s .args .at .trace + 1)) (c .mark-trace .last .1 .1 .1 .1 .0)
+    × (c .mark-trace .last .1 .1 .1 .1 .1 .1 .0 ≡ wordsOf 8 (λ s'. member (now (s .args .ecb)) s' || evicts t s'))
+    × AllEarlier (baseOf (s .args .at .trace + 1)) (c .mark-trace .last .1 .1 .1 .1 .1 .0)
 four c =
     let s = start (read c) in
     let t = the-trace (read c) in
@@ -108,7 +108,7 @@ four c =
       c .before .before .before .before .pd .ensures ∙ ap tracePD t,
       c .mark-trace .ensures .0 ∙ ap traceMD t,
       c .mark-trace .ensures .2 ∙ ap (λ (u : Trace). wordsOf 8 (λ s'. member (now (s .args .ecb)) s' || evicts u s')) t,
-      subst (λ (base : ℕ). AllEarlier base (c .mark-trace .last .1 .1 .1 .1 .0)) next (c .mark-trace .ensures .3),
+      subst (λ (base : ℕ). AllEarlier base (c .mark-trace .last .1 .1 .1 .1 .1 .0)) next (c .mark-trace .ensures .3),
     )
 
 returns : tie.Need-returns
@@ -123,10 +123,10 @@ returns c =
       pd = all .0;
       md = all .1;
       joined = all .2;
-      higher = λ wanted. c .raise-points .ensures (before t (s .pre .0 .sound) (s .pre .5)) (marked-turning _ _ _ _ (low found) (marks found) _ (found .mark-trace .ensures .1)) (λ s' h. useful-start _ _ _ _ s')
+      higher = λ wanted. c .raise-points .ensures (before t (s .pre .0 .sound) (caches found) (s .pre .5) (s .pre .6)) (marked-turning _ _ _ _ (low found) (marks found) _ (found .mark-trace .ensures .1)) (λ s' h. useful-start _ _ _ _ s')
           ∙ fillTo-cong _ _ (now (a .row)) (a .i)
           (λ j h. ap (λ (x : ℕ). max (getD (now (a .row)) j 0) (onlyIf (eqb (core b (a .i)) (core b j)) x))
-          (most-useful t (s .pre .0 .sound) (s .pre .5) (evictedBy b j) ∙ ap (λ (u : Trace). mostUseful u (evictedBy b j)) (the-trace (read found))));
+          (most-useful t (s .pre .0 .sound) (caches found) (s .pre .5) (s .pre .6) (evictedBy b j) ∙ ap (λ (u : Trace). mostUseful u (evictedBy b j)) (the-trace (read found))));
       later = all .3;
     }
 

@@ -24,16 +24,16 @@ use Rattle.survey.proofs.survey.Statement.{statement}
 use Rattle.survey.proofs.survey.Tie as tie
 
 abbrev Inv : tie.InvT-loop
-Inv b count rows words₀ sets₀ n cores₀ evicted₀ row₀ held₀ marks₀ higher₀ at₀ i₀ words sets cores evicted row held marks higher at i =
+Inv b count rows words₀ sets₀ n caches cores₀ evicted₀ row₀ held₀ marks₀ higher₀ at₀ i₀ words sets cores evicted row held marks higher at i =
     (i ≤ count) × (length words ≡ length words₀) × At b i 0 (at .trace) (at .start) × Cores b i cores × Evicted b i evicted × Held b n i words sets
     × (rows ≡ true → Row b i row × Overheads b n i words) × AllEarlier (baseOf (at .trace)) held
 
 abbrev μ : tie.MeasureT-loop
-μ b count rows words₀ sets₀ n cores₀ evicted₀ row₀ held₀ marks₀ higher₀ at₀ i₀ words sets cores evicted row held marks higher at i = count - i
+μ b count rows words₀ sets₀ n caches cores₀ evicted₀ row₀ held₀ marks₀ higher₀ at₀ i₀ words sets cores evicted row held marks higher at i = count - i
 
 holds : tie.Need-loop-holds Inv μ
 holds c =
-    let a = c .before .before .before .before .before .args in
+    let a = c .before .before .before .before .before .before .before .args in
     let b = now (a .board) in (
       search needs,
       search needs,
@@ -46,26 +46,27 @@ holds c =
     )
 
 -- n is the number of tasks
-size : (c : tie.At-loop Inv μ) → c .before .before .index .result ≡ tasks (now (c .before .before .before .before .before .before .args .board))
-size c = c .before .before .index .ensures .0 ∙ c .before .before .before .tasks .ensures .0
+size : (c : tie.At-loop Inv μ) → c .before .before .before .before .index .result ≡ tasks (now (c .before .before .before .before .before .before .before .before .args .board))
+size c = c .before .before .before .before .index .ensures .0 ∙ c .before .before .before .before .before .tasks .ensures .0
 
-few : (c : tie.At-loop Inv μ) → c .before .before .index .result ≤ 64
-few c = omega (arith, size c, c .before .before .before .before .before .before .pre .0 .tasks)
+few : (c : tie.At-loop Inv μ) → c .before .before .before .before .index .result ≤ 64
+few c = omega (arith, size c, c .before .before .before .before .before .before .before .before .pre .0 .tasks)
 
 -- and i one of them
-ready : (c : tie.In-loop Inv μ) → Ready (now (c .before .before .before .before .before .before .before .args .board)) (c .before .loop .i)
+ready : (c : tie.In-loop Inv μ) → Ready (now (c .before .before .before .before .before .before .before .before .before .args .board)) (c .before .loop .i)
 ready c =
-    let start = c .before .before .before .before .before .before .before in
+    let start = c .before .before .before .before .before .before .before .before .before in
     record { sound = start .pre .0; task = omega (arith, c .loop-test .taken, start .pre .1) }
 
-below : (c : tie.In-loop Inv μ) → c .before .loop .i < c .before .before .before .index .result
+below : (c : tie.In-loop Inv μ) → c .before .loop .i < c .before .before .before .before .before .index .result
 below c = omega (arith, ready c .task, size (c .before))
 
 asks : tie.Need-survey-task-requires Inv μ
 asks c κs =
     let turn = c .before .before .before .before .before in
-    let inv = turn .before .loop .inv in
-    (ready turn, inv .2, inv .4, inv .7)
+    let at = turn .before in
+    let inv = at .loop .inv in
+    (ready turn, inv .2, inv .4, inv .7, at .before .before .index2 .ensures .0 ∙ at .before .before .before .cache-count .ensures .0)
 
 keeps : tie.Need-keep-requires Inv μ
 keeps c κs =
@@ -78,7 +79,7 @@ stores : tie.Need-store-requires Inv μ
 stores c κs =
     let turn = c .before .before .before .before .before .before .before .before .before .before .before .before .before in
     let at = turn .before in
-    let start = at .before .before .before .before .before .before in (
+    let start = at .before .before .before .before .before .before .before .before in (
       below turn,
       few at,
       omega (arith, size at, start .pre .2, at .loop .inv .1),
@@ -103,10 +104,10 @@ again c =
     let task = c .before .before .before .before .before .before .before .before .before .before .before .survey-task in
     let turn = c .before .before .before .before .before .before .before .before .before .before .before .before .before .before .before .before .before in
     let at = turn .before in
-    let start = at .before .before .before .before .before .before in
+    let start = at .before .before .before .before .before .before .before .before in
     let a = start .args in
     let b = now (a .board) in
-    let n = at .before .before .index .result in (
+    let n = at .before .before .before .before .index .result in (
       add-one-le (turn .loop-test .taken),
       store .ensures .1 ∙ at .loop .inv .1,
       task .ensures .3,
@@ -122,7 +123,7 @@ again c =
 returns : tie.Need-returns Inv μ
 returns c =
     let at = c .before in
-    let a = at .before .before .before .before .before .before .args in
+    let a = at .before .before .before .before .before .before .before .before .args in
     let b = now (a .board) in
     let end : at .loop .i ≡ a .count = omega (arith, at .loop .inv .0, c .loop-test .left) in (
       subst₂ (λ (m k : ℕ). Held b m k (at .loop .words) (at .loop .sets)) (size at) end (at .loop .inv .5),
@@ -133,5 +134,5 @@ returns c =
 pub survey-spec : {M : Type 1} → statement M
 survey-spec =
     tie.close
-    (tie.spec Inv μ (λ c κs. search needs) (λ c κs. search needs) (λ c κs. search needs) holds asks keeps stores fits less
+    (tie.spec Inv μ (λ c κs. search needs) (λ c κs. search needs) (λ c κs. search needs) (λ c κs. search needs) (λ c κs. search needs) holds asks keeps stores fits less
     again (λ c. search needs) returns)

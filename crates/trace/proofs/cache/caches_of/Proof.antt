@@ -15,4 +15,4 @@ one c = caches-one _ _ (search needs) (omega arith) (omega arith) (λ k. omega a
 pub caches-of-spec : {M : Type 1} → statement M
 caches-of-spec =
     tie.close
-    (tie.spec (λ c κs. search needs) (λ c κs. search needs) (λ c κs. search needs) (λ c κs. search needs) (λ c κs. search needs) two one)
+    (tie.spec (λ c κs. search needs) (λ c κs. search needs) (λ c κs. search needs) (λ c κs. search needs) two one)

@@ -1,4 +1,4 @@
--- `figures::row::raise_if` meets its contract. The invariant: the row is raised for the tasks of the list before word q, and no count still to come is above `most`.
+-- `figures::row::raise` meets its contract. The invariant: the row is raised for the tasks of the list before word q, and no count still to come is above `most`.
 -- Assumes nothing.
 use Prim.Native.Nat.{ℕ, _-_, _≤_, _<_, max}
 use mathlib.Core.Bool.{Bool}
@@ -22,28 +22,22 @@ use Rattle.figures.specs.Overhead.{evictedBy}
 use Rattle.figures.specs.Rows.{sameCore, onCoreOf, raised}
 use Rattle.figures.proofs.Rows.{raised-none, count-rise}
 use Rattle.figures.proofs.Listed.{Walk, walk-start, walk-on, walk-turn, walk-end}
-use Rattle.figures.proofs.row.raise_if.Statement.{statement}
-use Rattle.figures.proofs.row.raise_if.Tie as tie
+use Rattle.figures.proofs.row.raise.Statement.{statement}
+use Rattle.figures.proofs.row.raise.Tie as tie
 
 -- the useful blocks of the point in the sets evicted by task j
 abbrev reloadsBy : List ℕ → ℕ → List ℕ → ℕ → ℕ → ℕ
 reloadsBy b c live planes j = countBy c live planes (evictedBy b j)
 
 abbrev Inv : tie.InvT-loop
-Inv test b i higher evicted live c planes row₀ most₀ q₀ k₀ row most q k = Walk b i (reloadsBy b c live planes) row₀ higher row most q k
+Inv b i higher evicted live c planes row₀ most₀ q₀ k₀ row most q k = Walk b i (reloadsBy b c live planes) row₀ higher row most q k
 
 abbrev μ : tie.MeasureT-loop
-μ test b i higher evicted live c planes row₀ most₀ q₀ k₀ row most q k = 64 - q
-
-unwanted : tie.Need-returns Inv μ
-unwanted c =
-    let a = c .before .before .before .args in
-    raised-none _ (a .i) (now (a .row))
-    (λ j h. onlyIf-zero (sameCore (now (a .board)) (a .i) j) _ (ap (λ (t : Bool). onlyIf t (reloadsBy (now (a .board)) (a .caches) (now (a .live)) (a .planes) j)) (not-true (a .test) (c .if1 .taken))))
+μ b i higher evicted live c planes row₀ most₀ q₀ k₀ row most q k = 64 - q
 
 holds : tie.Need-loop-holds Inv μ
 holds c =
-    let start = c .before .before .before .before .before in
+    let start = c .before .before .before .before in
     let a = start .args in
     walk-start (now (a .board)) (a .i) (reloadsBy (now (a .board)) (a .caches) (now (a .live)) (a .planes)) (now (a .row)) (now (a .higher)) _ _ (start .pre .1) (c .index .ensures .0)
     (λ j. countBy-bound (a .caches) (now (a .live)) (a .planes) (evictedBy (now (a .board)) j) (start .pre .3 .1) (start .pre .4))
@@ -54,7 +48,7 @@ module _ (c : tie.In-loop Inv μ) where
   at = c .before
 
   abbrev start : tie.Start Inv μ
-  start = at .before .before .before .before .before .before
+  start = at .before .before .before .before .before
 
   abbrev b : List ℕ
   b = now (start .args .board)
@@ -112,17 +106,14 @@ again c =
     w (some turn)
     (done .0 ∙ ap (λ (x : ℕ). set (at turn .loop .row) (j turn) (max (getD (at turn .loop .row) (j turn) 0) x)) (same turn)) (omega (arith, done .1, same turn)) (c .index2 .ensures .0)
 
-returns : tie.Need-returns-2 Inv μ
+returns : tie.Need-returns Inv μ
 returns c =
     let at = c .before in
-    let wanted = at .before .before .before in
-    let a = wanted .before .before .before .args in
-    subst
-    (λ (t : Bool). at .loop .row ≡ raised (onCoreOf (now (a .board)) (a .i) (λ j. onlyIf t (reloadsBy (now (a .board)) (a .caches) (now (a .live)) (a .planes) j))) (a .i) (now (a .row)))
-    (sym (not-false (a .test) (wanted .if1 .left))) (walk-end (now (a .board)) (a .i) _ (now (a .row)) (at .loop .inv) (omega (arith, c .loop-test .left)))
+    let a = at .before .before .before .before .before .args in
+    walk-end (now (a .board)) (a .i) _ (now (a .row)) (at .loop .inv) (omega (arith, c .loop-test .left))
 
-pub raise-if-spec : {M : Type 1} → statement M
-raise-if-spec =
+pub raise-spec : {M : Type 1} → statement M
+raise-spec =
     tie.close
-    (tie.spec Inv μ unwanted (λ c. search needs) (λ c κs. search needs) holds (λ c. search needs) asks (λ c. omega (arith, short (c .before .before))) (λ c. omega (arith, short (c .before .before)))
+    (tie.spec Inv μ (λ c. search needs) (λ c κs. search needs) holds (λ c. search needs) asks (λ c. omega (arith, short (c .before .before))) (λ c. omega (arith, short (c .before .before)))
     (λ c. omega (arith, short (c .before .before))) (λ c κs. search needs) (λ c. omega (arith, short (c .before .before .before .before))) again returns)
