@@ -19,19 +19,19 @@ use Rattle.folds.proofs.Folds.{sumTo-but}
 use Rattle.bitset.specs.Bits.{bit, wordOf}
 use Rattle.bitset.proofs.Words.{bit-none, bit-and, bit-xor, bit-wordOf}
 use Rattle.counts.specs.Planes.{setsOf, inPlane, countOf, largest}
-use Rattle.counts.specs.Turns.{adds, takes, Passed}
-use Rattle.counts.specs.Carries.{Moved, carried, moves, falls, moved, Rippled}
+use Rattle.counts.specs.Turns.{adds, takes, MarkApplied}
+use Rattle.counts.specs.Carries.{Balanced, carried, moves, falls, moved, Rippled}
 use Rattle.counts.proofs.Planes.{same-plane, weight, count-sum, count-below, largest-power}
 
 -- ---- one number
 
-moved-start : (down first : Bool) (old : ℕ) → Moved down first first 1 old old
-moved-start true first old = omega arith
-moved-start false first old = omega arith
+balanced-start : (down first : Bool) (old : ℕ) → Balanced down first first 1 old old
+balanced-start true first old = omega arith
+balanced-start false first old = omega arith
 
 -- its bit of weight k was b and has the carry
 moved-on : (down first rest b : Bool) (k k' old new new' : ℕ) → k' ≡ k * 2 → new' + onlyIf b k ≡ new + onlyIf (xor b rest) k
-    → Moved down first rest k old new → Moved down first (rest && xor b down) k' old new'
+    → Balanced down first rest k old new → Balanced down first (rest && xor b down) k' old new'
 unfolding xor
 moved-on true first true true k k' old new new' w e m = omega arith
 moved-on true first true false k k' old new new' w e m = omega arith
@@ -43,19 +43,19 @@ moved-on false first false true k k' old new new' w e m = omega arith
 moved-on false first false false k k' old new new' w e m = omega arith
 
 -- no carry stands
-moved-stop : (down first : Bool) (k old new : ℕ) → Moved down first false k old new → new + onlyIf (down && first) 1 ≡ old + onlyIf (not down && first) 1
-moved-stop true first k old new m = omega arith
-moved-stop false first k old new m = omega arith
+balanced-stop : (down first : Bool) (k old new : ℕ) → Balanced down first false k old new → new + onlyIf (down && first) 1 ≡ old + onlyIf (not down && first) 1
+balanced-stop true first k old new m = omega arith
+balanced-stop false first k old new m = omega arith
 
 -- none can stand past the last bit
-moved-end : (down first rest : Bool) (most old new : ℕ) → new ≤ most → ((not down && first) ≡ true → old < most) → ((down && first) ≡ true → 1 ≤ old) → old ≤ most
-    → Moved down first rest (most + 1) old new → new + onlyIf (down && first) 1 ≡ old + onlyIf (not down && first) 1
-moved-end true first false most old new low room some l m = moved-stop true first (most + 1) old new m
-moved-end false first false most old new low room some l m = moved-stop false first (most + 1) old new m
-moved-end true true true most old new low room some l m = absurd (omega (arith, some refl))
-moved-end true false true most old new low room some l m = absurd (omega arith)
-moved-end false true true most old new low room some l m = absurd (omega (arith, room refl))
-moved-end false false true most old new low room some l m = absurd (omega arith)
+balanced-end : (down first rest : Bool) (most old new : ℕ) → new ≤ most → ((not down && first) ≡ true → old < most) → ((down && first) ≡ true → 1 ≤ old) → old ≤ most
+    → Balanced down first rest (most + 1) old new → new + onlyIf (down && first) 1 ≡ old + onlyIf (not down && first) 1
+balanced-end true first false most old new low room some l m = balanced-stop true first (most + 1) old new m
+balanced-end false first false most old new low room some l m = balanced-stop false first (most + 1) old new m
+balanced-end true true true most old new low room some l m = absurd (omega (arith, some refl))
+balanced-end true false true most old new low room some l m = absurd (omega arith)
+balanced-end false true true most old new low room some l m = absurd (omega (arith, room refl))
+balanced-end false false true most old new low room some l m = absurd (omega arith)
 
 -- ---- the carries of one word of each plane
 
@@ -124,7 +124,7 @@ pub ripple-start : (c planes mark at : ℕ) (live : List ℕ) (carry : ℕ) → 
     → Rippled c planes mark at live 0 carry live
 ripple-start c planes mark at live carry place e s h =
     ap (λ (t : Bool). countOf c live 0 planes s + onlyIf (not (falls mark) && t) 1 + onlyIf (falls mark && moved mark s) 1) first
-    ∙ moved-start (falls mark) (moved mark s) (countOf c live 0 planes s)
+    ∙ balanced-start (falls mark) (moved mark s) (countOf c live 0 planes s)
     ∙ ap (λ (t : Bool). countOf c live 0 planes s + onlyIf (falls mark && t) 1 + onlyIf (not (falls mark) && moved mark s) 1) (sym first)
   where
     its : bit carry (s % 64) ≡ (eqb (s % 64) (mark / 4 % 64) && moves mark)
@@ -145,7 +145,7 @@ pub ripple-on : (c planes mark at : ℕ) (live₀ live : List ℕ) (i carry turn
     → Rippled c planes mark at live₀ (i + 1) (bitAnd carry (bitXor (getD live (4 * (i * c) + at) 0) turned)) (set live (4 * (i * c) + at) (bitXor (getD live (4 * (i * c) + at) 0) carry))
 ripple-on c planes mark at live₀ live i carry turned l near room e so-far s h =
     subst
-    (λ (t : Bool). Moved (falls mark) (moved mark s) t (2 ^ (i + 1)) (countOf c live₀ 0 planes s) (countOf c (next c live i at carry room near) 0 planes s))
+    (λ (t : Bool). Balanced (falls mark) (moved mark s) t (2 ^ (i + 1)) (countOf c live₀ 0 planes s) (countOf c (next c live i at carry room near) 0 planes s))
     (sym (carry-on c live i at carry room near turned (falls mark) (λ j k. ap (λ (w : ℕ). bit w j) e ∙ bit-wordOf 64 (λ t. falls mark) j k) s h))
     (moved-on (falls mark) (moved mark s) (carried carry at s) (inPlane c live i s) (2 ^ i) (2 ^ (i + 1)) (countOf c live₀ 0 planes s) (countOf c live 0 planes s) _
     (ap (λ (k : ℕ). 2 ^ k) (add-one i) ∙ pow-suc 2 i) (count-on c live i at carry room near planes s h l) (so-far s h))
@@ -185,26 +185,26 @@ module _ (mark s : ℕ) where
 -- past the last plane
 pub ripple-end : (c planes mark at : ℕ) (live₀ live : List ℕ) (i carry : ℕ) → i ≡ planes
     → (mark % 4 ≡ 1 → countOf c live₀ 0 planes (mark / 4) < largest planes) → (mark % 4 ≡ 2 → 1 ≤ countOf c live₀ 0 planes (mark / 4))
-    → Rippled c planes mark at live₀ i carry live → Passed c live₀ planes mark live
+    → Rippled c planes mark at live₀ i carry live → MarkApplied c live₀ planes mark live
 ripple-end c planes mark at live₀ live i carry e room some all s h =
     as-marked mark s (countOf c live₀ 0 planes s) (countOf c live 0 planes s)
-    (moved-end (falls mark) (moved mark s) (carried carry at s) (largest planes) (countOf c live₀ 0 planes s) (countOf c live 0 planes s)
+    (balanced-end (falls mark) (moved mark s) (carried carry at s) (largest planes) (countOf c live₀ 0 planes s) (countOf c live 0 planes s)
     (count-below c live 0 planes s)
     (λ q. let both = and-both (eqb (mark / 4) s) (eqb (mark % 4) 1) (sym (more mark s) ∙ q) in
     subst (λ (k : ℕ). countOf c live₀ 0 planes k < largest planes) (eqb-true (mark / 4) s (both .0)) (room (eqb-true (mark % 4) 1 (both .1))))
     (λ q. let both = and-both (eqb (mark / 4) s) (eqb (mark % 4) 2) (sym (less mark s) ∙ q) in
     subst (λ (k : ℕ). 1 ≤ countOf c live₀ 0 planes k) (eqb-true (mark / 4) s (both .0)) (some (eqb-true (mark % 4) 2 (both .1))))
     (count-below c live₀ 0 planes s)
-    (subst (λ (k : ℕ). Moved (falls mark) (moved mark s) (carried carry at s) k (countOf c live₀ 0 planes s) (countOf c live 0 planes s))
+    (subst (λ (k : ℕ). Balanced (falls mark) (moved mark s) (carried carry at s) k (countOf c live₀ 0 planes s) (countOf c live 0 planes s))
     (ap (λ (k : ℕ). 2 ^ k) e ∙ sym (largest-power planes)) (all s h)))
 
 -- where no carry stands, before it
 pub ripple-stop : (c planes mark at : ℕ) (live₀ live : List ℕ) (i carry : ℕ) → carry ≡ 0
-    → Rippled c planes mark at live₀ i carry live → Passed c live₀ planes mark live
+    → Rippled c planes mark at live₀ i carry live → MarkApplied c live₀ planes mark live
 ripple-stop c planes mark at live₀ live i carry none all s h =
     as-marked mark s (countOf c live₀ 0 planes s) (countOf c live 0 planes s)
-    (moved-stop (falls mark) (moved mark s) (2 ^ i) (countOf c live₀ 0 planes s) (countOf c live 0 planes s)
-    (subst (λ (t : Bool). Moved (falls mark) (moved mark s) t (2 ^ i) (countOf c live₀ 0 planes s) (countOf c live 0 planes s)) gone (all s h)))
+    (balanced-stop (falls mark) (moved mark s) (2 ^ i) (countOf c live₀ 0 planes s) (countOf c live 0 planes s)
+    (subst (λ (t : Bool). Balanced (falls mark) (moved mark s) t (2 ^ i) (countOf c live₀ 0 planes s) (countOf c live 0 planes s)) gone (all s h)))
   where
     gone : carried carry at s ≡ false
     gone = ap (λ (w : ℕ). eqb (s / 64) at && bit w (s % 64)) none ∙ ap (λ (t : Bool). eqb (s / 64) at && t) (bit-none (s % 64)) ∙ and-false (eqb (s / 64) at)

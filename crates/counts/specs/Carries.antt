@@ -10,8 +10,8 @@ use Rattle.bitset.specs.Bits.{bit}
 use Rattle.counts.specs.Planes.{setsOf, countOf}
 
 -- one number, up or down: it was `old` and is `new`, with a carry in of `first` and one that still stands, of weight k, of `rest`
-abbrev pub Moved : Bool → Bool → Bool → ℕ → ℕ → ℕ → Type 0
-Moved down first rest k old new =
+abbrev pub Balanced : Bool → Bool → Bool → ℕ → ℕ → ℕ → Type 0
+Balanced down first rest k old new =
     new + onlyIf (not down && rest) k + onlyIf (down && first) 1 ≡ old + onlyIf (down && rest) k + onlyIf (not down && first) 1
 
 -- whether a carry of word `at` goes into the number of set s
@@ -32,4 +32,4 @@ moved mark s = eqb (mark / 4) s && moves mark
 -- after i planes the numbers of live₀ have moved but for the carries
 abbrev pub Rippled : ℕ → ℕ → ℕ → ℕ → List ℕ → ℕ → ℕ → List ℕ → Type 0
 Rippled c planes mark at live₀ i carry live =
-    (s : ℕ) → s < setsOf c → Moved (falls mark) (moved mark s) (carried carry at s) (2 ^ i) (countOf c live₀ 0 planes s) (countOf c live 0 planes s)
+    (s : ℕ) → s < setsOf c → Balanced (falls mark) (moved mark s) (carried carry at s) (2 ^ i) (countOf c live₀ 0 planes s) (countOf c live 0 planes s)

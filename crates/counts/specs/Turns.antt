@@ -17,5 +17,5 @@ abbrev pub takes : ℕ → ℕ → ℕ
 takes mark s = onlyIf (eqb (mark / 4) s && eqb (mark % 4) 2) 1
 
 -- the numbers of live' are those of live after the mark
-abbrev pub Passed : ℕ → List ℕ → ℕ → ℕ → List ℕ → Type 0
-Passed c live planes mark live' = (s : ℕ) → s < setsOf c → countOf c live' 0 planes s + takes mark s ≡ countOf c live 0 planes s + adds mark s
+abbrev pub MarkApplied : ℕ → List ℕ → ℕ → ℕ → List ℕ → Type 0
+MarkApplied c live planes mark live' = (s : ℕ) → s < setsOf c → countOf c live' 0 planes s + takes mark s ≡ countOf c live 0 planes s + adds mark s

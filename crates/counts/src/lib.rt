@@ -15,7 +15,7 @@ ghost use Rattle.bitset.specs.Bits.{member, wordOf};
 ghost use Rattle.bitset.specs.Records.{recordAt};
 ghost use Rattle.counts.specs.Planes.{setsOf, inPlane, countOf, largest};
 ghost use Rattle.counts.specs.Counted.{mostCounted, Counted};
-ghost use Rattle.counts.specs.Turns.{Passed};
+ghost use Rattle.counts.specs.Turns.{MarkApplied};
 ghost use Rattle.counts.specs.Carries.{moves, falls, Rippled};
 
 // No count is larger: 15 blocks, the most of four planes, in each set of two caches.
@@ -66,11 +66,11 @@ fn carry_of(mark: u32) -> u64
 
 // The number of a mark's set as the mark says: one more, one less, or as it was. There is no branch on the mark: the first plane has the carry or the borrow
 // by exclusive or, and of one plane no carry is left.
-pub fn pass_mark(live: &mut [u64], caches: usize, planes: usize, mark: u32)
+pub fn apply_mark(live: &mut [u64], caches: usize, planes: usize, mark: u32)
     requires { ⌜ (mark < 1024 * caches) × (1 ≤ planes) × (planes ≤ 4) × (4 * (planes * caches) ≤ length (now live)) × (caches ≤ 2)
         × (mark % 4 ≡ 1 → countOf caches (now live) 0 planes (mark / 4) < largest planes)
         × (mark % 4 ≡ 2 → 1 ≤ countOf caches (now live) 0 planes (mark / 4)) ⌝ }
-    ensures { λ _. ⌜ (Passed caches (now (live .entry)) planes mark (now (live .exit))) × (length (now (live .exit)) ≡ length (now (live .entry))) ⌝ }
+    ensures { λ _. ⌜ (MarkApplied caches (now (live .entry)) planes mark (now (live .exit))) × (length (now (live .exit)) ≡ length (now (live .entry))) ⌝ }
 {
     let at = index(mark / 256);
     let carry = carry_of(mark);
@@ -90,7 +90,7 @@ fn carry_on(live: &mut [u64], caches: usize, planes: usize, mark: u32, turned: u
         × (turned ≡ wordOf (λ (t : ℕ). falls mark) 64) ⌝ }
     ensures { λ _. ⌜ ((old : List ℕ) → (mark % 4 ≡ 1 → countOf caches old 0 planes (mark / 4) < largest planes)
         → (mark % 4 ≡ 2 → 1 ≤ countOf caches old 0 planes (mark / 4)) → Rippled caches planes mark (mark / 256) old 1 first (now (live .entry))
-        → Passed caches old planes mark (now (live .exit))) × (length (now (live .exit)) ≡ length (now (live .entry))) ⌝ }
+        → MarkApplied caches old planes mark (now (live .exit))) × (length (now (live .exit)) ≡ length (now (live .entry))) ⌝ }
 {
     let at = index(mark / 256);
     let mut carry = first;

@@ -1,4 +1,4 @@
--- One slot more, and the slots whose block is loaded again: a load that hits tells the last slot that loaded its block that it is kept, and no other.
+-- One position more, and the positions whose block is loaded again: a load that hits tells the last position that loaded its block that it is kept, and no other.
 -- Assumes nothing.
 use Prim.Native.Nat.{ℕ, zero, suc, _+_, _≤_, _<_}
 use mathlib.Core.Bool.{Bool, true, false, not, cond, _&&_, _||_, or-true, or-false, or-assoc, false≢true}
@@ -9,12 +9,12 @@ use native.Mathlib.Omega.{arith}
 use borrow.Author.Tests.{eq-eqb, ne-eqb}
 use lib.Dec.{eqb}
 use Rattle.lru.specs.Recency.{among, hits, nextHits}
-use Rattle.lru.specs.Slots.{withSlot, before, after}
+use Rattle.lru.specs.Positions.{withLoad, before, nextLoads}
 use Rattle.entries.specs.Marks.{lastOf}
 use Rattle.lru.proofs.Lists.{among-none, among-behind}
 use Rattle.lru.proofs.Useful.{next-none, next-own, next-other}
 
--- whether one of the k slots from j on loads block m
+-- whether one of the k positions from j on loads block m
 unfoldable loaded : (ℕ → ℕ) → ℕ → ℕ → ℕ → Bool
 loaded l m j zero = false
 loaded l m j (suc k) = eqb (l j) (suc m) || loaded l m (suc j) k
@@ -28,7 +28,7 @@ module _ (l : ℕ → ℕ) (m : ℕ) where
       ap (λ (t : Bool). eqb (l j) (suc m) || t) (loaded-end (suc j) k ∙ ap (λ (i : ℕ). loaded l m (suc j) k || eqb (l i) (suc m)) next)
       ∙ sym (or-assoc (eqb (l j) (suc m)) (loaded l m (suc j) k) (eqb (l (j + suc k)) (suc m)))
 
-  -- ---- the last slot that loads the block
+  -- ---- the last position that loads the block
 
   last-below : (e : ℕ) → lastOf l e m ≤ e
   unfolding lastOf
@@ -60,7 +60,7 @@ module _ (l : ℕ → ℕ) (m : ℕ) where
   unfolding loaded
   loaded-none j = refl
 
-  -- a slot that loads it is the last one where none after it does
+  -- a position that loads it is the last one where none after it does
   last-loaded : (i k : ℕ) → l i ≡ suc m → loaded l m (suc i) k ≡ not (eqb (lastOf l (suc i + k) m) i)
   last-loaded i zero h =
       loaded-none (suc i)
@@ -78,13 +78,13 @@ module _ (l : ℕ → ℕ) (m : ℕ) where
           loaded-end (suc i) k ∙ ap (λ (t : Bool). loaded l m (suc i) k || t) (ne-eqb (l (suc i + k)) (suc m) o) ∙ or-false (loaded l m (suc i) k)
           ∙ next ∙ sym (ap (λ (x : ℕ). not (eqb (lastOf l x m) i)) more ∙ ap (λ (x : ℕ). not (eqb x i)) (last-other (suc i + k) o))
 
--- a block that was loaded has a last slot
+-- a block that was loaded has a last position
 pub last-there : (l : ℕ → ℕ) (m e : ℕ) → among m (before l e) ≡ true → (lastOf l e m < e) × (l (lastOf l e m) ≡ suc m)
 unfolding before
 last-there l m zero h = absurd (false≢true (sym (among-none m) ∙ h))
 last-there l m (suc e) h = go (last-there l m e) (ℕ-discrete (l e) (suc m))
   where
-    skip : (x : ℕ) → (x ≡ suc m → ⊥) → among m (withSlot x (before l e)) ≡ among m (before l e)
+    skip : (x : ℕ) → (x ≡ suc m → ⊥) → among m (withLoad x (before l e)) ≡ among m (before l e)
     skip zero n = refl
     skip (suc y) n = among-behind y m (before l e) (λ q. n (ap suc q))
 
@@ -95,30 +95,30 @@ last-there l m (suc e) h = go (last-there l m e) (ℕ-discrete (l e) (suc m))
         let less : lastOf l e m < e = so .0 in
         (omega (arith, last-other l m e o), ap l (last-other l m e o) ∙ so .1)
 
--- ---- the next load of a block among one slot more
+-- ---- the next load of a block among one position more
 
 module _ (place : ℕ → ℕ) (ways : ℕ) (l : ℕ → ℕ) (m : ℕ) where
   abbrev next : ℕ → ℕ → Bool
-  next j k = nextHits place ways (before l j) (after l j k) m
+  next j k = nextHits place ways (before l j) (nextLoads l j k) m
 
-  -- the first of the slots
+  -- the first of the positions
   first-own : (j k : ℕ) → l j ≡ suc m → next j (suc k) ≡ hits place ways (before l j) m
-  unfolding after
-  first-own j k q = ap (λ (x : ℕ). nextHits place ways (before l j) (withSlot x (after l (suc j) k)) m) q ∙ next-own place ways (before l j) (after l (suc j) k) m
+  unfolding nextLoads
+  first-own j k q = ap (λ (x : ℕ). nextHits place ways (before l j) (withLoad x (nextLoads l (suc j) k)) m) q ∙ next-own place ways (before l j) (nextLoads l (suc j) k) m
 
   first-other : (j k : ℕ) → (l j ≡ suc m → ⊥) → next j (suc k) ≡ next (suc j) k
-  unfolding before after
+  unfolding before nextLoads
   first-other j k o = go (l j) o
     where
-      go : (x : ℕ) → (x ≡ suc m → ⊥) → nextHits place ways (before l j) (withSlot x (after l (suc j) k)) m ≡ nextHits place ways (withSlot x (before l j)) (after l (suc j) k) m
+      go : (x : ℕ) → (x ≡ suc m → ⊥) → nextHits place ways (before l j) (withLoad x (nextLoads l (suc j) k)) m ≡ nextHits place ways (withLoad x (before l j)) (nextLoads l (suc j) k) m
       go zero n = refl
-      go (suc y) n = next-other place ways (before l j) (after l (suc j) k) y m (λ q. n (ap suc q))
+      go (suc y) n = next-other place ways (before l j) (nextLoads l (suc j) k) y m (λ q. n (ap suc q))
 
   nothing-yet : (j : ℕ) → next j 0 ≡ false
-  unfolding after
+  unfolding nextLoads
   nothing-yet j = next-none place ways (before l j) m
 
-  -- none of k slots loads the block
+  -- none of k positions loads the block
   none-loaded : (j k : ℕ) → loaded l m j k ≡ false → next j k ≡ false
   unfolding loaded
   none-loaded j zero h = nothing-yet j
@@ -153,7 +153,7 @@ module _ (place : ℕ → ℕ) (ways : ℕ) (l : ℕ → ℕ) (m : ℕ) where
           ∙ ap₂ (λ (u : Bool) (i : ℕ). cond (loaded l m (suc j) k) u (rest i)) (sym (first-other j k o)) there
           ∙ sym (ap (λ (t : Bool). cond (t || loaded l m (suc j) k) (next j (suc k)) (rest (j + suc k))) (ne-eqb (l j) (suc m) o))
 
-  -- slot i loads the block, and slot e = i + 1 + k is one more
+  -- position i loads the block, and position e = i + 1 + k is one more
   module _ (i k : ℕ) (own : l i ≡ suc m) where
     abbrev e : ℕ
     e = suc i + k
@@ -166,13 +166,13 @@ module _ (place : ℕ → ℕ) (ways : ℕ) (l : ℕ → ℕ) (m : ℕ) where
         go true q = refl
         go false q = h ∙ sym (none-loaded (suc i) k q)
 
-    -- another slot loaded it since: nothing changes
+    -- another position loaded it since: nothing changes
     pub next-passed : (lastOf l e m ≡ i → ⊥) → next (suc i) (suc k) ≡ next (suc i) k
     next-passed n =
         next-more (suc i) k
         ∙ ap (λ (t : Bool). cond t (next (suc i) k) (eqb (l e) (suc m) && hits place ways (before l e) m)) (last-loaded l m i k own ∙ ap not (ne-eqb (lastOf l e m) i n))
 
-    -- slot i was the last to load it, and the load hits
+    -- position i was the last to load it, and the load hits
     pub next-new : lastOf l e m ≡ i → l e ≡ suc m → hits place ways (before l e) m ≡ true → (next (suc i) k ≡ false) × (next (suc i) (suc k) ≡ true)
     next-new q here hit =
         let fresh : loaded l m (suc i) k ≡ false = last-loaded l m i k own ∙ ap not (eq-eqb (lastOf l e m) i q) in (

@@ -67,24 +67,24 @@ are-same base held held' i (suc n) [] same are =
 are-same base held held' i (suc n) (v ∷ vs) same are =
     (same i (omega arith) (omega arith) ∙ are .0, are-same base held held' (suc i) n vs (λ j h k. same j (omega arith) (omega arith)) (are .1))
 
--- before the first slot no block is held
+-- before the first position no block is held
 pub are-empty : (base : ℕ) (held : List ℕ) (i n : ℕ) → AllEarlier base held → Are base held i n []
 are-empty base held i zero all = tt
 are-empty base held i (suc n) all = (all i, are-empty base held (suc i) n all)
 
--- ---- entries `code m` of blocks m, whose slots are below 2048
+-- ---- entries `code m` of blocks m, whose positions are below 2048
 
-module _ (base : ℕ) (slot : ℕ → ℕ) (m : ℕ) where
+module _ (base : ℕ) (position : ℕ → ℕ) (m : ℕ) where
   abbrev code : ℕ → ℕ
-  code y = (base + suc y) * 2048 + slot y
+  code y = (base + suc y) * 2048 + position y
 
-  code-of : (y : ℕ) → slot y < 2048 → code y / 2048 ≡ base + suc y
+  code-of : (y : ℕ) → position y < 2048 → code y / 2048 ≡ base + suc y
   code-of y h = omega arith
 
-  code-slot : (y : ℕ) → slot y < 2048 → code y % 2048 ≡ slot y
-  code-slot y h = omega arith
+  code-position : (y : ℕ) → position y < 2048 → code y % 2048 ≡ position y
+  code-position y h = omega arith
 
-  module _ (small : (y : ℕ) → slot y < 2048) where
+  module _ (small : (y : ℕ) → position y < 2048) where
     -- the test of an entry
     own : (held : List ℕ) (i y : ℕ) → getD held i 0 ≡ code y → y ≡ m → isOf (base + suc m) (getD held i 0) ≡ true
     own held i y e q = eq-eqb (getD held i 0 / 2048) (base + suc m) (ap (λ (z : ℕ). z / 2048) e ∙ code-of y (small y) ∙ ap (λ (z : ℕ). base + suc z) q)
@@ -106,26 +106,26 @@ module _ (base : ℕ) (slot : ℕ → ℕ) (m : ℕ) where
     fresh : (held : List ℕ) (i y : ℕ) → getD held i 0 ≡ code y → isEarlier base (getD held i 0) ≡ false
     fresh held i y e = lt-leb (getD held i 0 / 2048) base (omega (arith, ap (λ (z : ℕ). z / 2048) e ∙ code-of y (small y)))
 
-    pub found-is : (held : List ℕ) (i n : ℕ) (ms : List ℕ) → Are base held i n (map code ms) → found base (base + suc m) held i n ≡ cond (among m (take n ms)) (suc (slot m)) 0
+    pub found-is : (held : List ℕ) (i n : ℕ) (ms : List ℕ) → Are base held i n (map code ms) → found base (base + suc m) held i n ≡ cond (among m (take n ms)) (suc (position m)) 0
     unfolding found
-    found-is held i zero ms are = sym (ap (λ (t : Bool). cond t (suc (slot m)) 0) (among-none m))
+    found-is held i zero ms are = sym (ap (λ (t : Bool). cond t (suc (position m)) 0) (among-none m))
     found-is held i (suc n) [] are =
         ap₂ (λ (t u : Bool). cond t (1 + getD held i 0 % 2048) (cond u 0 (found base (base + suc m) held (suc i) n))) (none held i (are .0)) (old held i (are .0))
-        ∙ sym (ap (λ (t : Bool). cond t (suc (slot m)) 0) (among-none m))
+        ∙ sym (ap (λ (t : Bool). cond t (suc (position m)) 0) (among-none m))
     found-is held i (suc n) (y ∷ ms) are = go (found-is held (suc i) n ms (are .1)) (ℕ-discrete y m)
       where
         by : Bool → Bool → ℕ
         by t u = cond t (1 + getD held i 0 % 2048) (cond u 0 (found base (base + suc m) held (suc i) n))
 
-        go : found base (base + suc m) held (suc i) n ≡ cond (among m (take n ms)) (suc (slot m)) 0 → Dec (y ≡ m)
-            → by (isOf (base + suc m) (getD held i 0)) (isEarlier base (getD held i 0)) ≡ cond (among m (y ∷ take n ms)) (suc (slot m)) 0
+        go : found base (base + suc m) held (suc i) n ≡ cond (among m (take n ms)) (suc (position m)) 0 → Dec (y ≡ m)
+            → by (isOf (base + suc m) (getD held i 0)) (isEarlier base (getD held i 0)) ≡ cond (among m (y ∷ take n ms)) (suc (position m)) 0
         go next (yes q) =
             ap (λ (t : Bool). by t (isEarlier base (getD held i 0))) (own held i y (are .0) q)
-            ∙ (let s : 1 + getD held i 0 % 2048 ≡ suc (slot m) = omega (arith, ap (λ (z : ℕ). z % 2048) (are .0) ∙ code-slot y (small y), ap slot q) in s)
-            ∙ sym (ap (λ (t : Bool). cond t (suc (slot m)) 0) (ap (λ (z : ℕ). among m (z ∷ take n ms)) q ∙ among-front m (take n ms)))
+            ∙ (let s : 1 + getD held i 0 % 2048 ≡ suc (position m) = omega (arith, ap (λ (z : ℕ). z % 2048) (are .0) ∙ code-position y (small y), ap position q) in s)
+            ∙ sym (ap (λ (t : Bool). cond t (suc (position m)) 0) (ap (λ (z : ℕ). among m (z ∷ take n ms)) q ∙ among-front m (take n ms)))
         go next (no o) =
             ap₂ by (other held i y (are .0) o) (fresh held i y (are .0)) ∙ next
-            ∙ sym (ap (λ (t : Bool). cond t (suc (slot m)) 0) (among-behind y m (take n ms) o))
+            ∙ sym (ap (λ (t : Bool). cond t (suc (position m)) 0) (among-behind y m (take n ms) o))
 
     front : (held : List ℕ) (i n v w : ℕ) → i < length held → getD (shifted base (base + suc m) w (set held i v) (suc i) n) i 0 ≡ v
     front held i n v w h = shifted-outside base (base + suc m) w (set held i v) (suc i) n i (λ k h l e. omega arith) ∙ getD-set-same held i v 0 h

@@ -1,4 +1,4 @@
--- The scan of slots: before slot e the array has the entries of every set, and the slots below e have their marks. One slot more.
+-- The scan of positions: before position e the array has the entries of every set, and the positions below e have their marks. One position more.
 -- Assumes nothing.
 use Prim.Native.Nat.{ℕ, zero, suc, _+_, _-_, _*_, _/_, _≤_, _<_}
 use mathlib.Core.Bool.{Bool, true, false, not, cond, _&&_, and-false, false≢true}
@@ -16,9 +16,9 @@ use lib.Seq.{getD-set-same, getD-set-other}
 use Rattle.folds.specs.Folds.{onlyIf}
 use Rattle.folds.proofs.Numbers.{le-or-lt}
 use Rattle.lru.specs.Recency.{among, without, recent, held, hits, nextHits}
-use Rattle.lru.specs.Slots.{withSlot, before, after, slotSet, slotHits, slotMisses, slotKept}
+use Rattle.lru.specs.Positions.{withLoad, before, nextLoads, loadSet, positionHits, positionMisses, positionKept}
 use Rattle.entries.specs.Entries.{found, shifted}
-use Rattle.entries.specs.Marks.{lastOf, entryOf, Are, Held, markOf, Marked, markMiss, markHit, markLoad, slotHeld, slotMarks, slotMissed, Earlier, AllEarlier, nextBase}
+use Rattle.entries.specs.Marks.{lastOf, entryOf, Are, Held, markOf, Marked, markMiss, markHit, markLoad, positionHeld, positionMarks, positionMissed, Earlier, AllEarlier, nextBase}
 use Rattle.lru.proofs.Lists.{among-front, among-later, among-take, without-self}
 use Rattle.lru.proofs.Recent.{recent-own, recent-other, once-recent, recent-there}
 use Rattle.lru.proofs.Useful.{hits-is, next-none}
@@ -49,12 +49,12 @@ apart s s' w h =
     omega (arith, up, suc-mul s w)
 
 module _ (place : ℕ → ℕ) (ways : ℕ) (l : ℕ → ℕ) (base : ℕ) where
-  -- ---- a slot that loads nothing
+  -- ---- a position that loads nothing
 
   module _ (e : ℕ) (idle : l e ≡ 0) where
     same-before : before l (suc e) ≡ before l e
     unfolding before
-    same-before = ap (λ (x : ℕ). withSlot x (before l e)) idle
+    same-before = ap (λ (x : ℕ). withLoad x (before l e)) idle
 
     not-loaded : (m : ℕ) → l e ≡ suc m → ⊥
     not-loaded m q = let z : 0 ≡ suc m = sym idle ∙ q in omega (arith, z)
@@ -66,15 +66,15 @@ module _ (place : ℕ → ℕ) (ways : ℕ) (l : ℕ → ℕ) (base : ℕ) where
         ∙ ap (λ (past : List ℕ). map (entryOf base l (suc e)) (recent place s past)) (sym same-before))
         (all s h)
 
-  -- ---- the marks of earlier slots
+  -- ---- the marks of earlier positions
 
-  -- what slot i knows of its block's next load below e, and below e + 1
+  -- what position i knows of its block's next load below e, and below e + 1
   abbrev keptNow : ℕ → ℕ → Bool
-  keptNow e i = slotKept place ways l i (e - (i + 1))
+  keptNow e i = positionKept place ways l i (e - (i + 1))
 
   split-mark : (e e' i : ℕ) → keptNow e' i ≡ keptNow e i → markOf place ways l e' i ≡ markOf place ways l e i
   unfolding markOf
-  split-mark e e' i q = ap (λ (t : Bool). onlyIf (not (eqb (l i) 0)) (4 * slotSet place (l i)) + 2 * onlyIf (slotHits place ways l i) 1 + onlyIf t 1) q
+  split-mark e e' i q = ap (λ (t : Bool). onlyIf (not (eqb (l i) 0)) (4 * loadSet place (l i)) + 2 * onlyIf (positionHits place ways l i) 1 + onlyIf t 1) q
 
   module _ (e i : ℕ) (h : i < e) where
     abbrev k : ℕ
@@ -83,39 +83,39 @@ module _ (place : ℕ → ℕ) (ways : ℕ) (l : ℕ → ℕ) (base : ℕ) where
     there : suc i + k ≡ e
     there = omega arith
 
-    kept-at : (m : ℕ) → l i ≡ suc m → (n : ℕ) → slotKept place ways l i n ≡ nextHits place ways (before l (suc i)) (after l (suc i) n) m
-    unfolding slotKept
-    kept-at m q n = ap (λ (x : ℕ). not (eqb x 0) && nextHits place ways (before l (suc i)) (after l (suc i) n) (x - 1)) q ∙ (let less : suc m - 1 ≡ m = omega arith in rw (eqb·suc-zero m, less))
+    kept-at : (m : ℕ) → l i ≡ suc m → (n : ℕ) → positionKept place ways l i n ≡ nextHits place ways (before l (suc i)) (nextLoads l (suc i) n) m
+    unfolding positionKept
+    kept-at m q n = ap (λ (x : ℕ). not (eqb x 0) && nextHits place ways (before l (suc i)) (nextLoads l (suc i) n) (x - 1)) q ∙ (let less : suc m - 1 ≡ m = omega arith in rw (eqb·suc-zero m, less))
 
-    kept-none : l i ≡ 0 → (n : ℕ) → slotKept place ways l i n ≡ false
-    unfolding slotKept
-    kept-none q n = ap (λ (x : ℕ). not (eqb x 0) && nextHits place ways (before l (suc i)) (after l (suc i) n) (x - 1)) q
+    kept-none : l i ≡ 0 → (n : ℕ) → positionKept place ways l i n ≡ false
+    unfolding positionKept
+    kept-none q n = ap (λ (x : ℕ). not (eqb x 0) && nextHits place ways (before l (suc i)) (nextLoads l (suc i) n) (x - 1)) q
 
     more : suc e - (i + 1) ≡ suc k
     more = omega arith
 
-    -- slot e does not load the block of slot i, or misses, or another slot loaded it since
+    -- position e does not load the block of position i, or misses, or another position loaded it since
     kept-same : ((m : ℕ) → l i ≡ suc m → (eqb (l e) (suc m) && hits place ways (before l e) m) ≡ false) → keptNow (suc e) i ≡ keptNow e i
     kept-same quiet = go (l i) refl
       where
         go : (x : ℕ) → l i ≡ x → keptNow (suc e) i ≡ keptNow e i
         go zero q = kept-none q (suc e - (i + 1)) ∙ sym (kept-none q k)
         go (suc m) q =
-            ap (slotKept place ways l i) more ∙ kept-at m q (suc k)
+            ap (positionKept place ways l i) more ∙ kept-at m q (suc k)
             ∙ next-same place ways l m i k q (ap (λ (x : ℕ). eqb (l x) (suc m) && hits place ways (before l x) m) there ∙ quiet m q) ∙ sym (kept-at m q k)
 
     kept-passed : (m : ℕ) → l i ≡ suc m → (lastOf l e m ≡ i → ⊥) → keptNow (suc e) i ≡ keptNow e i
     kept-passed m q n =
-        ap (slotKept place ways l i) more ∙ kept-at m q (suc k)
+        ap (positionKept place ways l i) more ∙ kept-at m q (suc k)
         ∙ next-passed place ways l m i k q (λ r. n (ap (λ (x : ℕ). lastOf l x m) (sym there) ∙ r)) ∙ sym (kept-at m q k)
 
     kept-new : (m : ℕ) → l i ≡ suc m → lastOf l e m ≡ i → l e ≡ suc m → hits place ways (before l e) m ≡ true
         → (keptNow e i ≡ false) × (keptNow (suc e) i ≡ true)
     kept-new m q r here hit =
         let so = next-new place ways l m i k q (ap (λ (x : ℕ). lastOf l x m) there ∙ r) (ap l there ∙ here) (ap (λ (x : ℕ). hits place ways (before l x) m) there ∙ hit) in
-        (kept-at m q k ∙ so .0, ap (slotKept place ways l i) more ∙ kept-at m q (suc k) ∙ so .1)
+        (kept-at m q k ∙ so .0, ap (positionKept place ways l i) more ∙ kept-at m q (suc k) ∙ so .1)
 
-  -- slot e loads block m, and slot i is not the last that did
+  -- position e loads block m, and position i is not the last that did
   kept-rest : (e i : ℕ) → i < e → (m : ℕ) → l e ≡ suc m → (i ≡ lastOf l e m → ⊥) → (x : ℕ) → l i ≡ x → keptNow (suc e) i ≡ keptNow e i
   kept-rest e i h m load n zero q = kept-none e i h q (suc e - (i + 1)) ∙ sym (kept-none e i h q (e - (i + 1)))
   kept-rest e i h m load n (suc m') q = go (ℕ-discrete m' m)
@@ -124,19 +124,19 @@ module _ (place : ℕ → ℕ) (ways : ℕ) (l : ℕ → ℕ) (base : ℕ) where
       go (yes r) = kept-passed e i h m (q ∙ ap suc r) (λ z. n (sym z))
       go (no o) = kept-same e i h (λ m'' q'. ap (λ (t : Bool). t && hits place ways (before l e) m'') (ne-eqb (l e) (suc m'') (λ z. o (let w : suc m' ≡ suc m = sym q ∙ q' ∙ sym z ∙ load in omega (arith, w)))))
 
-  -- the mark of the slot just passed: nothing is known of what follows it
+  -- the mark of the position just passed: nothing is known of what follows it
   kept-last : (e : ℕ) → keptNow (suc e) e ≡ false
-  unfolding slotKept after
-  kept-last e = ap (slotKept place ways l e) (let z : suc e - (e + 1) ≡ 0 = omega arith in z) ∙ go (not (eqb (l e) 0))
+  unfolding positionKept nextLoads
+  kept-last e = ap (positionKept place ways l e) (let z : suc e - (e + 1) ≡ 0 = omega arith in z) ∙ go (not (eqb (l e) 0))
     where
       go : (t : Bool) → (t && nextHits place ways (before l (suc e)) [] (l e - 1)) ≡ false
       go true = next-none place ways (before l (suc e)) (l e - 1)
       go false = refl
 
-  -- ---- the marks after one slot
+  -- ---- the marks after one position
 
   module _ (e : ℕ) (marks : List ℕ) (room : e < length marks) (all : Marked place ways l marks e) where
-    -- what is stored at slot e, and what the slots below it keep
+    -- what is stored at position e, and what the positions below it keep
     stored : (marks' : List ℕ) → ((i : ℕ) → i < e → getD marks' i 0 ≡ markOf place ways l (suc e) i) → getD marks' e 0 ≡ markOf place ways l (suc e) e
         → Marked place ways l marks' (suc e)
     stored marks' below here i h = go (ℕ-discrete i e)
@@ -148,27 +148,27 @@ module _ (place : ℕ → ℕ) (ways : ℕ) (l : ℕ → ℕ) (base : ℕ) where
     old : (v i : ℕ) → i < e → getD (set marks e v) i 0 ≡ markOf place ways l e i
     old v i h = getD-set-other marks e i v 0 (λ q. omega arith) ∙ all i h
 
-    mark-here : (v : ℕ) → v ≡ onlyIf (not (eqb (l e) 0)) (4 * slotSet place (l e)) + 2 * onlyIf (slotHits place ways l e) 1
+    mark-here : (v : ℕ) → v ≡ onlyIf (not (eqb (l e) 0)) (4 * loadSet place (l e)) + 2 * onlyIf (positionHits place ways l e) 1
         → getD (set marks e v) e 0 ≡ markOf place ways l (suc e) e
     unfolding markOf
     mark-here v q =
-        let known : onlyIf (slotKept place ways l e (suc e - (e + 1))) 1 ≡ 0 = ap (λ (t : Bool). onlyIf t 1) (kept-last e) in
+        let known : onlyIf (positionKept place ways l e (suc e - (e + 1))) 1 ≡ 0 = ap (λ (t : Bool). onlyIf t 1) (kept-last e) in
         let store : getD (set marks e v) e 0 ≡ v = getD-set-same marks e v 0 room in
         omega (arith, q, known, store)
 
     pub mark-idle : l e ≡ 0 → Marked place ways l (set marks e 0) (suc e)
-    unfolding slotHits
+    unfolding positionHits
     mark-idle idle =
         stored (set marks e 0)
         (λ i h. old 0 i h ∙ sym (split-mark e (suc e) i (kept-same e i h (λ m q. ap (λ (x : ℕ). eqb x (suc m) && hits place ways (before l e) m) idle ∙ ap (λ (t : Bool). t && hits place ways (before l e) m) (eqb·zero-suc m)))))
-        (mark-here 0 (sym (ap (λ (x : ℕ). onlyIf (not (eqb x 0)) (4 * slotSet place x) + 2 * onlyIf (not (eqb x 0) && hits place ways (before l e) (x - 1)) 1) idle)))
+        (mark-here 0 (sym (ap (λ (x : ℕ). onlyIf (not (eqb x 0)) (4 * loadSet place x) + 2 * onlyIf (not (eqb x 0) && hits place ways (before l e) (x - 1)) 1) idle)))
 
     module _ (m s last : ℕ) (load : l e ≡ suc m) (own : s ≡ place m) (known : last ≡ cond (hits place ways (before l e) m) (suc (lastOf l e m)) 0) where
-      -- the mark of the slot itself
-      here-is : onlyIf (not (eqb (l e) 0)) (4 * slotSet place (l e)) + 2 * onlyIf (slotHits place ways l e) 1 ≡ 4 * s + 2 * onlyIf (hits place ways (before l e) m) 1
-      unfolding slotHits
+      -- the mark of the position itself
+      here-is : onlyIf (not (eqb (l e) 0)) (4 * loadSet place (l e)) + 2 * onlyIf (positionHits place ways l e) 1 ≡ 4 * s + 2 * onlyIf (hits place ways (before l e) m) 1
+      unfolding positionHits
       here-is =
-          ap (λ (x : ℕ). onlyIf (not (eqb x 0)) (4 * slotSet place x) + 2 * onlyIf (not (eqb x 0) && hits place ways (before l e) (x - 1)) 1) load
+          ap (λ (x : ℕ). onlyIf (not (eqb x 0)) (4 * loadSet place x) + 2 * onlyIf (not (eqb x 0) && hits place ways (before l e) (x - 1)) 1) load
           ∙ (let less : suc m - 1 ≡ m = omega arith in rw (eqb·suc-zero m, less) (ap (λ (x : ℕ). 4 * x + 2 * onlyIf (hits place ways (before l e) m) 1) (sym own)))
 
       missed : hits place ways (before l e) m ≡ false → Marked place ways l (markMiss marks e s) (suc e)
@@ -184,7 +184,7 @@ module _ (place : ℕ → ℕ) (ways : ℕ) (l : ℕ → ℕ) (base : ℕ) where
               go (yes r) = ap (λ (t : Bool). eqb (l e) (suc m') && t) (ap (hits place ways (before l e)) r ∙ miss) ∙ and-false (eqb (l e) (suc m'))
               go (no n) = ap (λ (t : Bool). t && hits place ways (before l e) m') (ne-eqb (l e) (suc m') (λ r. n (let z : suc m' ≡ suc m = sym r ∙ load in omega (arith, z))))
 
-      -- where it hits, the block's last slot
+      -- where it hits, the block's last position
       module _ (hit : hits place ways (before l e) m ≡ true) where
         was : (lastOf l e m < e) × (l (lastOf l e m) ≡ suc m)
         was = last-there l m e (recent-there place (place m) m (before l e) (among-take ways m (recent place (place m) (before l e)) (sym (hits-is place ways (before l e) m) ∙ hit)) .1)
@@ -192,15 +192,15 @@ module _ (place : ℕ → ℕ) (ways : ℕ) (l : ℕ → ℕ) (base : ℕ) where
         even : (x y z : ℕ) → (4 * x + 2 * y + 0) / 2 * 2 + 1 ≡ 4 * x + 2 * y + 1
         even x y z = omega arith
 
-        -- the mark with the slot known to be kept
+        -- the mark with the position known to be kept
         marked-kept : (v : ℕ) → v ≡ markOf place ways l e (lastOf l e m) → v / 2 * 2 + 1 ≡ markOf place ways l (suc e) (lastOf l e m)
         unfolding markOf
         marked-kept v q =
             let so = kept-new e (lastOf l e m) (was .0) m (was .1) refl load hit in
-            let off : onlyIf (slotKept place ways l (lastOf l e m) (e - (lastOf l e m + 1))) 1 ≡ 0 = ap (λ (t : Bool). onlyIf t 1) (so .0) in
-            let on : onlyIf (slotKept place ways l (lastOf l e m) (suc e - (lastOf l e m + 1))) 1 ≡ 1 = ap (λ (t : Bool). onlyIf t 1) (so .1) in
-            let four : onlyIf (not (eqb (l (lastOf l e m)) 0)) (4 * slotSet place (l (lastOf l e m))) ≡ 4 * onlyIf (not (eqb (l (lastOf l e m)) 0)) (slotSet place (l (lastOf l e m))) =
-            scaled (not (eqb (l (lastOf l e m)) 0)) (slotSet place (l (lastOf l e m))) in
+            let off : onlyIf (positionKept place ways l (lastOf l e m) (e - (lastOf l e m + 1))) 1 ≡ 0 = ap (λ (t : Bool). onlyIf t 1) (so .0) in
+            let on : onlyIf (positionKept place ways l (lastOf l e m) (suc e - (lastOf l e m + 1))) 1 ≡ 1 = ap (λ (t : Bool). onlyIf t 1) (so .1) in
+            let four : onlyIf (not (eqb (l (lastOf l e m)) 0)) (4 * loadSet place (l (lastOf l e m))) ≡ 4 * onlyIf (not (eqb (l (lastOf l e m)) 0)) (loadSet place (l (lastOf l e m))) =
+            scaled (not (eqb (l (lastOf l e m)) 0)) (loadSet place (l (lastOf l e m))) in
             omega (arith, q, off, on, four)
           where
             scaled : (t : Bool) (x : ℕ) → onlyIf t (4 * x) ≡ 4 * onlyIf t x
@@ -267,7 +267,7 @@ module _ (place : ℕ → ℕ) (ways : ℕ) (l : ℕ → ℕ) (base : ℕ) where
 
     now-before : before l (suc e) ≡ m ∷ before l e
     unfolding before
-    now-before = ap (λ (x : ℕ). withSlot x (before l e)) load
+    now-before = ap (λ (x : ℕ). withLoad x (before l e)) load
 
     entry-other : (y : ℕ) → (m ≡ y → ⊥) → entryOf base l e y ≡ entryOf base l (suc e) y
     entry-other y n = ap (λ (x : ℕ). (base + suc y) * 2048 + x) (sym (last-other l y e (λ q. n (let z : suc m ≡ suc y = sym load ∙ q in omega (arith, z)))))
@@ -311,25 +311,25 @@ module _ (place : ℕ → ℕ) (ways : ℕ) (l : ℕ → ℕ) (base : ℕ) where
                 (λ k c d q. ⊎-elim (λ (le : s ≤ t). omega (arith, q, apart s t ways (lt-of-le-ne le (λ r. o (sym own ∙ r))))) (λ (lt : t < s). omega (arith, q, apart t s ways lt))
                 (le-or-lt s t))
 
-  -- ---- one slot more
+  -- ---- one position more
 
-  -- before slot e the array has the entries of every set, and the slots below it have their marks; no word has a key of the next trace
+  -- before position e the array has the entries of every set, and the positions below it have their marks; no word has a key of the next trace
   abbrev pub Scanned : ℕ → List ℕ → List ℕ → ℕ → Type 0
   Scanned sets array marks e =
       (sets * ways ≤ length array) × (2048 ≤ length marks) × Held place ways l base array sets e × Marked place ways l marks e
       × AllEarlier (nextBase base) array
 
   module _ (sets e s : ℕ) (array marks : List ℕ) (short : e < 2048) (there : s < sets) (all : Scanned sets array marks e) where
-    pub scan-slot : (x : ℕ) → x ≡ l e → x ≤ 65536 → ((m : ℕ) → x ≡ suc m → s ≡ place m)
-        → Scanned sets (slotHeld base ways s x e array) (slotMarks base ways s x e array marks) (suc e)
-        × (slotMissed base ways s x array ≡ onlyIf (slotMisses place ways l e) 1)
-    unfolding slotHeld slotMarks slotMissed slotMisses
-    scan-slot zero q few own =
+    pub scan-position : (x : ℕ) → x ≡ l e → x ≤ 65536 → ((m : ℕ) → x ≡ suc m → s ≡ place m)
+        → Scanned sets (positionHeld base ways s x e array) (positionMarks base ways s x e array marks) (suc e)
+        × (positionMissed base ways s x array ≡ onlyIf (positionMisses place ways l e) 1)
+    unfolding positionHeld positionMarks positionMissed positionMisses
+    scan-position zero q few own =
         let idle : l e ≡ 0 = sym q in (
           (all .0, omega (arith, length-set marks e 0, all .1), held-idle e idle array sets (all .2), mark-idle e marks (omega (arith, all .1)) (all .3) idle, all .4),
           ap (λ (x : ℕ). onlyIf (not (eqb x 0) && not (hits place ways (before l e) (x - 1))) 1) q,
         )
-    scan-slot (suc m) q few own =
+    scan-position (suc m) q few own =
         let load : l e ≡ suc m = sym q in
         let known = found-load e m s array sets load (own m refl) there short (all .0) (all .2) in
         let last = found base (base + suc m) array (s * ways) ways in

@@ -1,4 +1,4 @@
--- For the code: the blocks held in a set as words of an array, the last loaded first, each with the slot of its last load: key × 2048 + slot. The key is
+-- For the code: the blocks held in a set as words of an array, the last loaded first, each with the position of its last load: key × 2048 + position. The key is
 -- base + block + 1, with another base for each trace: an entry that an earlier trace left has a key of no block of this one, so that no word is cleared. No
 -- block is held past such an entry.
 -- Assumes nothing.
@@ -16,7 +16,7 @@ isOf x entry = eqb (entry / 2048) x
 abbrev pub isEarlier : ℕ → ℕ → Bool
 isEarlier base entry = leb (entry / 2048) base
 
--- the slot + 1 of the entry of key x among the n entries from i on, up to the first of an earlier trace, and 0 where there is none
+-- the position + 1 of the entry of key x among the n entries from i on, up to the first of an earlier trace, and 0 where there is none
 unfoldable pub found : ℕ → ℕ → List ℕ → ℕ → ℕ → ℕ
 found base x held i zero = 0
 found base x held i (suc n) =

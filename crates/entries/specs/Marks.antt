@@ -1,4 +1,4 @@
--- For the code: the mark of a slot, by which the scan that finds hits tells the scan that counts useful blocks what the slot does, and the entries
+-- For the code: the mark of a position, by which the scan that finds hits tells the scan that counts useful blocks what the position does, and the entries
 -- that the first scan keeps.
 -- Assumes nothing.
 use Prim.Native.Nat.{ℕ, zero, suc, _+_, _-_, _*_, _/_, _<_}
@@ -10,14 +10,14 @@ use lib.ListN.{getD, set}
 use Rattle.folds.specs.Folds.{onlyIf}
 use Rattle.lru.specs.Recency.{recent}
 use Rattle.entries.specs.Entries.{found, shifted}
-use Rattle.lru.specs.Slots.{before, slotSet, slotHits, slotKept}
+use Rattle.lru.specs.Positions.{before, loadSet, positionHits, positionKept}
 
--- the last slot below e that loads block m, and 0 where none does
+-- the last position below e that loads block m, and 0 where none does
 unfoldable pub lastOf : (ℕ → ℕ) → ℕ → ℕ → ℕ
 lastOf l zero m = 0
 lastOf l (suc e) m = cond (eqb (l e) (suc m)) e (lastOf l e m)
 
--- the entry of block m before slot e
+-- the entry of block m before position e
 abbrev pub entryOf : ℕ → (ℕ → ℕ) → ℕ → ℕ → ℕ
 entryOf base l e m = (base + suc m) * 2048 + lastOf l e m
 
@@ -43,19 +43,19 @@ Are base held i (suc n) [] = Earlier base (getD held i 0) × Are base held (suc 
 Are base held i (suc n) (v ∷ vs) = (getD held i 0 ≡ v) × Are base held (suc i) n vs
 
 module _ (place : ℕ → ℕ) (ways : ℕ) (l : ℕ → ℕ) where
-  -- the entries of every set before slot e
+  -- the entries of every set before position e
   abbrev pub Held : ℕ → List ℕ → ℕ → ℕ → Type 0
   Held base held sets e = (s : ℕ) → s < sets → Are base held (s * ways) ways (map (entryOf base l e) (recent place s (before l e)))
 
-  -- the mark of slot i, as known before slot e: 4 × its set, 2 more where its load hits, and 1 more where the next load of its block, below e, hits
+  -- the mark of position i, as known before position e: 4 × its set, 2 more where its load hits, and 1 more where the next load of its block, below e, hits
   unfoldable pub markOf : ℕ → ℕ → ℕ
-  markOf e i = onlyIf (not (eqb (l i) 0)) (4 * slotSet place (l i)) + 2 * onlyIf (slotHits place ways l i) 1 + onlyIf (slotKept place ways l i (e - (i + 1))) 1
+  markOf e i = onlyIf (not (eqb (l i) 0)) (4 * loadSet place (l i)) + 2 * onlyIf (positionHits place ways l i) 1 + onlyIf (positionKept place ways l i (e - (i + 1))) 1
 
-  -- the marks of the slots below e
+  -- the marks of the positions below e
   abbrev pub Marked : List ℕ → ℕ → Type 0
   Marked marks e = (i : ℕ) → i < e → getD marks i 0 ≡ markOf e i
 
--- what the code makes of the marks where slot e loads into set s: `last` is the slot + 1 of the block's last load where it is held, and 0 where not
+-- what the code makes of the marks where position e loads into set s: `last` is the position + 1 of the block's last load where it is held, and 0 where not
 abbrev pub markMiss : List ℕ → ℕ → ℕ → List ℕ
 markMiss marks e s = set marks e (4 * s)
 
@@ -65,12 +65,12 @@ markHit marks e s last = set (set marks e (4 * s + 2)) (last - 1) (getD (set mar
 unfoldable pub markLoad : List ℕ → ℕ → ℕ → ℕ → List ℕ
 markLoad marks e s last = cond (eqb last 0) (markMiss marks e s) (markHit marks e s last)
 
--- a slot that loads x (a block + 1, or 0 for nothing) into set s: the entries and the marks after it, and 1 where its load misses
-unfoldable pub slotHeld : ℕ → ℕ → ℕ → ℕ → ℕ → List ℕ → List ℕ
-slotHeld base ways s x e array = cond (eqb x 0) array (shifted base (base + x) ((base + x) * 2048 + e) array (s * ways) ways)
+-- a position that loads x (a block + 1, or 0 for nothing) into set s: the entries and the marks after it, and 1 where its load misses
+unfoldable pub positionHeld : ℕ → ℕ → ℕ → ℕ → ℕ → List ℕ → List ℕ
+positionHeld base ways s x e array = cond (eqb x 0) array (shifted base (base + x) ((base + x) * 2048 + e) array (s * ways) ways)
 
-unfoldable pub slotMarks : ℕ → ℕ → ℕ → ℕ → ℕ → List ℕ → List ℕ → List ℕ
-slotMarks base ways s x e array marks = cond (eqb x 0) (set marks e 0) (markLoad marks e s (found base (base + x) array (s * ways) ways))
+unfoldable pub positionMarks : ℕ → ℕ → ℕ → ℕ → ℕ → List ℕ → List ℕ → List ℕ
+positionMarks base ways s x e array marks = cond (eqb x 0) (set marks e 0) (markLoad marks e s (found base (base + x) array (s * ways) ways))
 
-unfoldable pub slotMissed : ℕ → ℕ → ℕ → ℕ → List ℕ → ℕ
-slotMissed base ways s x array = cond (eqb x 0) 0 (onlyIf (eqb (found base (base + x) array (s * ways) ways) 0) 1)
+unfoldable pub positionMissed : ℕ → ℕ → ℕ → ℕ → List ℕ → ℕ
+positionMissed base ways s x array = cond (eqb x 0) 0 (onlyIf (eqb (found base (base + x) array (s * ways) ways) 0) 1)

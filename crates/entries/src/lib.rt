@@ -4,7 +4,7 @@ ghost use Prim.Native.Nat.{_+_, _*_, _≤_, _<_};
 ghost use lib.ListN.{length};
 ghost use Rattle.entries.specs.Entries.{found, shifted};
 
-// Loads a block, whose key is x, in slot e into the set whose entries are the `ways` words from `from` on: it comes to the front. The slot + 1 of its
+// Loads a block, whose key is x, in position e into the set whose entries are the `ways` words from `from` on: it comes to the front. The position + 1 of its
 // last load where it was held, and 0 where the load misses. An entry of an earlier trace is lost first, and none past it is looked at.
 pub fn touch(held: &mut [u64], from: usize, ways: usize, base: u64, x: u64, e: u64) -> u64
     requires { ⌜ (from + ways ≤ length (now held)) × (x ≤ 4294967295) × (e < 2048) ⌝ }

@@ -8,25 +8,25 @@ use native.Mathlib.Omega.{arith}
 use lib.ListN.{length}
 use Rattle.board.specs.Layout.{tasks}
 use Rattle.board.specs.Sound.{Sound}
-use Rattle.figures.specs.Survey.{Held, Fillable}
+use Rattle.figures.specs.Survey.{Surveyed, Fillable}
 
 -- the figures of no task
-pub held-none : (b : List ℕ) (n : ℕ) (words sets : List ℕ) → Held b n 0 words sets
-held-none b n words sets = record {
+pub surveyed-none : (b : List ℕ) (n : ℕ) (words sets : List ℕ) → Surveyed b n 0 words sets
+surveyed-none b n words sets = record {
   pd = λ k h. absurd (not-suc-le-zero h);
   md = λ k h. absurd (not-suc-le-zero h);
   ecb = λ k h. absurd (not-suc-le-zero h);
 }
 
 -- every task
-pub fillable-tasks : {b : List ℕ} {n : ℕ} {words sets : List ℕ} → Sound b → n ≡ tasks b → 4 * n ≤ length words → Held b n n words sets
+pub fillable-tasks : {b : List ℕ} {n : ℕ} {words sets : List ℕ} → Sound b → n ≡ tasks b → 4 * n ≤ length words → Surveyed b n n words sets
     → Fillable b n words sets
 fillable-tasks sound all room held =
     record {
       few = omega (arith, all, sound .tasks);
       ready = λ k h. record { sound = sound; task = omega arith };
       room = room;
-      held = held;
+      surveyed = held;
     }
 
 -- no task
@@ -36,9 +36,9 @@ fillable-none =
       few = omega arith;
       ready = λ k h. absurd (omega arith);
       room = omega arith;
-      held = held-none _ _ _ _;
+      surveyed = surveyed-none _ _ _ _;
     }
 
 -- figures that are held of n tasks, where n is the number of tasks
-pub held-tasks : {b : List ℕ} {n count : ℕ} {words sets : List ℕ} → n ≡ tasks b → Held b (tasks b) count words sets → Held b n count words sets
-held-tasks {b} {n} {count} {words} {sets} all held = subst (λ (m : ℕ). Held b m count words sets) (sym all) held
+pub surveyed-tasks : {b : List ℕ} {n count : ℕ} {words sets : List ℕ} → n ≡ tasks b → Surveyed b (tasks b) count words sets → Surveyed b n count words sets
+surveyed-tasks {b} {n} {count} {words} {sets} all held = subst (λ (m : ℕ). Surveyed b m count words sets) (sym all) held

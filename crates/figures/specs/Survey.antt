@@ -16,7 +16,7 @@ abbrev pub ecbWords : ℕ
 ecbWords = 8 * mostTasks
 
 -- The figures of the first `count` of n tasks as words: PD from word 2n on, MD from 3n on, and ECB as records of eight 64-bit words.
-pub record Held (b : List ℕ) (n count : ℕ) (words sets : List ℕ) : Type 0 where
+pub record Surveyed (b : List ℕ) (n count : ℕ) (words sets : List ℕ) : Type 0 where
   pub pd : (k : ℕ) → k < count → getD words (2 * n + k) 0 ≡ taskPD b k
   pub md : (k : ℕ) → k < count → getD words (3 * n + k) 0 ≡ taskMD b k
   pub ecb : Evicting b count sets
@@ -30,7 +30,7 @@ pub record Fillable (b : List ℕ) (n : ℕ) (words sets : List ℕ) : Type 0 wh
   pub few : n ≤ 64
   pub ready : (k : ℕ) → k < n → Ready b k
   pub room : 4 * n ≤ length words
-  pub held : Held b n n words sets
+  pub surveyed : Surveyed b n n words sets
 
 -- the PD p, the MD m and, where rows are wanted, the row of task i written to the words; those of the tasks before it stay
 pub record Written (n i p m : ℕ) (rows : Bool) (line before after : List ℕ) : Type 0 where

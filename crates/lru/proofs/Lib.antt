@@ -6,4 +6,4 @@ pub mod Nowhere
 pub mod Parts
 pub mod Blocks
 pub mod OneWay
-pub mod Slots
+pub mod Positions

@@ -2,4 +2,4 @@
 pub mod Recency
 pub mod Direct
 pub mod Parts
-pub mod Slots
+pub mod Positions

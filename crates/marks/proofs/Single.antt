@@ -11,7 +11,7 @@ use lib.ListN.{getD, set}
 use lib.Seq.{set-getD}
 use Rattle.folds.specs.Folds.{onlyIf}
 use Rattle.entries.specs.Entries.{isOf, isEarlier, found, shifted}
-use Rattle.entries.specs.Marks.{slotHeld, slotMarks, slotMissed}
+use Rattle.entries.specs.Marks.{positionHeld, positionMarks, positionMissed}
 use Rattle.marks.proofs.Steps.{load-held, load-missed, load-hit, or-one}
 
 module _ (base s x e : ℕ) (array marks : List ℕ) (load : x ≡ 0 → ⊥) where
@@ -36,7 +36,7 @@ module _ (base s x e : ℕ) (array marks : List ℕ) (load : x ≡ 0 → ⊥) wh
       go true = refl
       go false = refl
 
-  pub one-held : set array s ((base + x) * 2048 + e) ≡ slotHeld base 1 s x e array
+  pub one-held : set array s ((base + x) * 2048 + e) ≡ positionHeld base 1 s x e array
   one-held = sym (shifted-one ((base + x) * 2048 + e)) ∙ load-held base 1 s x e array marks load
 
   module _ (hit : ℕ) (is : hit ≡ onlyIf (isOf (base + x) entry) 1) where
@@ -47,12 +47,12 @@ module _ (base s x e : ℕ) (array marks : List ℕ) (load : x ≡ 0 → ⊥) wh
     other = getD first (entry % 2048) 0
 
     abbrev Marked : Type 0
-    Marked = set first (entry % 2048) (bitOr other hit) ≡ slotMarks base 1 s x e array marks
+    Marked = set first (entry % 2048) (bitOr other hit) ≡ positionMarks base 1 s x e array marks
 
-    pub one-load : (1 - hit ≡ slotMissed base 1 s x array) × Marked
+    pub one-load : (1 - hit ≡ positionMissed base 1 s x array) × Marked
     one-load = go (isOf (base + x) entry) refl
       where
-        go : (t : Bool) → isOf (base + x) entry ≡ t → (1 - hit ≡ slotMissed base 1 s x array) × Marked
+        go : (t : Bool) → isOf (base + x) entry ≡ t → (1 - hit ≡ positionMissed base 1 s x array) × Marked
         go true q =
             let f : found base (base + x) array (s * 1) 1 ≡ 1 + entry % 2048 = found-one ∙ ap (λ (t : Bool). cond t (1 + entry % 2048) 0) q in
             let h : hit ≡ 1 = is ∙ ap (λ (t : Bool). onlyIf t 1) q in

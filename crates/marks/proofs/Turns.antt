@@ -16,35 +16,35 @@ use Rattle.bitset.specs.Bits.{member, wordsOf}
 use Rattle.bitset.proofs.Sets.{wordsOf-cong}
 use Rattle.board.specs.Layout.{memory, kindOf, blockOf, firstDataBlock}
 use Rattle.lru.specs.Recency.{recent}
-use Rattle.lru.specs.Slots.{slotMisses}
-use Rattle.lru.proofs.Slots.{before-none}
+use Rattle.lru.specs.Positions.{positionMisses}
+use Rattle.lru.proofs.Positions.{before-none}
 use Rattle.lru.proofs.Recent.{recent-none}
-use Rattle.entries.specs.Marks.{slotHeld, slotMarks, slotMissed, Are, entryOf, AllEarlier}
+use Rattle.entries.specs.Marks.{positionHeld, positionMarks, positionMissed, Are, entryOf, AllEarlier}
 use Rattle.entries.proofs.Lines.{are-empty}
-use Rattle.entries.proofs.Marking.{Scanned, scan-slot}
+use Rattle.entries.proofs.Marking.{Scanned, scan-position}
 use Rattle.trace.specs.Cache.{placeOf, allSets}
 use Rattle.trace.specs.Caches.{placeIn, CachesOf}
 use Rattle.trace.specs.declared.cache.Cache.{Cache}
 use Rattle.trace.specs.Traces.{Trace, fetch, work, reads, writes, dataBlock, evicts}
-use Rattle.trace.specs.Slots.{loadAt, touches}
+use Rattle.trace.specs.Positions.{loadAt, touches}
 use Rattle.trace.proofs.Caches.{placeIn-low}
-use Rattle.trace.proofs.Slots.{fetch-slot, read-slot}
+use Rattle.trace.proofs.Positions.{fetch-position, read-position}
 use Rattle.trace.proofs.Touched.{evicts-is}
-use Rattle.marks.specs.Accesses.{readSlot, dataTouches}
+use Rattle.marks.specs.Accesses.{loadOf, dataTouches}
 use Rattle.marks.proofs.Steps.{read-none, read-load, read-small}
 
--- with w ways: the slots of the instructions before p are scanned, and the loads that miss
+-- with w ways: the positions of the instructions before p are scanned, and the loads that miss
 abbrev pub ScannedTo : Trace → ℕ → ℕ → List ℕ → List ℕ → ℕ → Type 0
 ScannedTo t w base array marks p = Scanned (placeOf (t .words)) w (loadAt t) base allSets array marks (2 * p)
 
 abbrev pub misses : Trace → ℕ → ℕ → Bool
-misses t w = slotMisses (placeOf (t .words)) w (loadAt t)
+misses t w = positionMisses (placeOf (t .words)) w (loadAt t)
 
 module _ (t : Trace) (w base : ℕ) (code datum : Cache) (caches : CachesOf (t .words) code datum) where
   abbrev place : ℕ → ℕ
   place = placeOf (t .words)
 
-  -- before the first slot nothing is held
+  -- before the first position nothing is held
   pub scan-start : (array marks : List ℕ) → 4096 ≤ length array → w ≤ 8 → 2048 ≤ length marks → AllEarlier base array → ScannedTo t w base array marks 0
   scan-start array marks room small long all = (
     omega arith,
@@ -68,16 +68,16 @@ module _ (t : Trace) (w base : ℕ) (code datum : Cache) (caches : CachesOf (t .
     data-place k = sym (caches .data-place (blockOf word) (large k))
 
     fetch-is : block + 1 ≡ loadAt t (2 * p)
-    fetch-is = ap (λ (m : ℕ). m + 1) eb ∙ add-one (fetch t p) ∙ sym (fetch-slot t p)
+    fetch-is = ap (λ (m : ℕ). m + 1) eb ∙ add-one (fetch t p) ∙ sym (fetch-position t p)
 
-    read-is : readSlot word ≡ loadAt t (suc (2 * p))
-    unfolding readSlot
-    read-is = ap readSlot ew ∙ ap (λ (m : ℕ). cond (reads t p) m 0) (add-one (dataBlock t p)) ∙ sym (read-slot t p)
+    read-is : loadOf word ≡ loadAt t (suc (2 * p))
+    unfolding loadOf
+    read-is = ap loadOf ew ∙ ap (λ (m : ℕ). cond (reads t p) m 0) (add-one (dataBlock t p)) ∙ sym (read-position t p)
 
     fetch-own : (m : ℕ) → block + 1 ≡ suc m → s ≡ place m
     fetch-own m q = sym (caches .code-place block small) ∙ ap place (omega (arith, q))
 
-    read-own : (m : ℕ) → readSlot word ≡ suc m → s' ≡ place m
+    read-own : (m : ℕ) → loadOf word ≡ suc m → s' ≡ place m
     read-own m q = go (ℕ-discrete (kindOf word) 1)
       where
         go : Dec (kindOf word ≡ 1) → s' ≡ place m
@@ -96,28 +96,28 @@ module _ (t : Trace) (w base : ℕ) (code datum : Cache) (caches : CachesOf (t .
         go (no n) = ap (λ (x : ℕ). not (eqb (kindOf word) 0) && eqb x i) (data-place (omega (arith, n)))
 
     module _ (array array' array'' marks marks' marks'' : List ℕ) (r r' : ℕ)
-        (f : array' ≡ slotHeld base w s (block + 1) (2 * p) array)
-        (g : marks' ≡ slotMarks base w s (block + 1) (2 * p) array marks)
-        (n : r ≡ slotMissed base w s (block + 1) array)
-        (f' : array'' ≡ slotHeld base w s' (readSlot word) (2 * p + 1) array')
-        (g' : marks'' ≡ slotMarks base w s' (readSlot word) (2 * p + 1) array' marks')
-        (n' : r' ≡ slotMissed base w s' (readSlot word) array' + onlyIf (eqb (kindOf word) 2) 1)
+        (f : array' ≡ positionHeld base w s (block + 1) (2 * p) array)
+        (g : marks' ≡ positionMarks base w s (block + 1) (2 * p) array marks)
+        (n : r ≡ positionMissed base w s (block + 1) array)
+        (f' : array'' ≡ positionHeld base w s' (loadOf word) (2 * p + 1) array')
+        (g' : marks'' ≡ positionMarks base w s' (loadOf word) (2 * p + 1) array' marks')
+        (n' : r' ≡ positionMissed base w s' (loadOf word) array' + onlyIf (eqb (kindOf word) 2) 1)
         (so-far : ScannedTo t w base array marks p) where
       abbrev At : List ℕ → List ℕ → ℕ → Type 0
       At = Scanned place w (loadAt t) base allSets
 
       fetched : At array' marks' (suc (2 * p)) × (r ≡ onlyIf (misses t w (2 * p)) 1)
       fetched =
-          let so = scan-slot place w (loadAt t) base allSets (2 * p) s array marks (omega arith) (placeIn-low code (caches .code-placing) block) so-far (block + 1) fetch-is (omega arith) fetch-own in
+          let so = scan-position place w (loadAt t) base allSets (2 * p) s array marks (omega arith) (placeIn-low code (caches .code-placing) block) so-far (block + 1) fetch-is (omega arith) fetch-own in
           (rw (f, g) (so .0), n ∙ so .1)
 
       accessed : At array'' marks'' (suc (suc (2 * p))) × (r' ≡ onlyIf (misses t w (suc (2 * p))) 1 + onlyIf (eqb (kindOf word) 2) 1)
       accessed =
           let next : 2 * p + 1 ≡ suc (2 * p) = add-one (2 * p) in
-          let so = scan-slot place w (loadAt t) base allSets (suc (2 * p)) s' array' marks' (omega arith) (placeIn-low datum (caches .data-placing) (blockOf word)) (fetched .0) (readSlot word) read-is (read-small word) read-own in (
+          let so = scan-position place w (loadAt t) base allSets (suc (2 * p)) s' array' marks' (omega arith) (placeIn-low datum (caches .data-placing) (blockOf word)) (fetched .0) (loadOf word) read-is (read-small word) read-own in (
             rw (
-              f' ∙ ap (λ (e : ℕ). slotHeld base w s' (readSlot word) e array') next,
-              g' ∙ ap (λ (e : ℕ). slotMarks base w s' (readSlot word) e array' marks') next,
+              f' ∙ ap (λ (e : ℕ). positionHeld base w s' (loadOf word) e array') next,
+              g' ∙ ap (λ (e : ℕ). positionMarks base w s' (loadOf word) e array' marks') next,
             ) (so .0),
             n' ∙ ap (λ (k : ℕ). k + onlyIf (eqb (kindOf word) 2) 1) (so .1),
           )

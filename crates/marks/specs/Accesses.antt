@@ -7,9 +7,9 @@ use Rattle.board.specs.Layout.{kindOf, blockOf}
 use Rattle.trace.specs.Caches.{placeIn}
 use Rattle.trace.specs.declared.cache.Cache.{Cache}
 
--- what it loads, as a slot's number, and whether it touches place s of the cache that its block lies in
-unfoldable pub readSlot : ℕ → ℕ
-readSlot w = cond (eqb (kindOf w) 1) (blockOf w + 1) 0
+-- what it loads, a block + 1 or 0 for nothing, and whether it touches place s of the cache that its block lies in
+unfoldable pub loadOf : ℕ → ℕ
+loadOf w = cond (eqb (kindOf w) 1) (blockOf w + 1) 0
 
 abbrev pub dataTouches : Cache → ℕ → ℕ → Bool
 dataTouches cache w s = not (eqb (kindOf w) 0) && eqb (placeIn cache (blockOf w)) s

@@ -1,3 +1,3 @@
 -- The buffers that a load works in, and the data access of an instruction.
-pub mod Room
+pub mod MarkRoom
 pub mod Accesses

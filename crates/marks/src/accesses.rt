@@ -1,4 +1,4 @@
-// The accesses of an instruction under a cache, one at a time, each to the cache that its block lies in. Each function tells what its slot makes of the
+// The accesses of an instruction under a cache, one at a time, each to the cache that its block lies in. Each function tells what its position makes of the
 // blocks held and of the marks, and gives 1 where it uses the bus.
 use super::loads::mark_one;
 use super::loads::mark_ways;
@@ -14,12 +14,12 @@ ghost use lib.ListN.{length};
 ghost use Rattle.folds.specs.Folds.{onlyIf};
 ghost use Rattle.bitset.specs.Bits.{member, wordsOf};
 ghost use Rattle.board.specs.Layout.{kindOf, blockOf};
-ghost use Rattle.entries.specs.Marks.{slotHeld, slotMarks, slotMissed};
+ghost use Rattle.entries.specs.Marks.{positionHeld, positionMarks, positionMissed};
 ghost use Rattle.trace.specs.Caches.{placeIn, Placing};
-ghost use Rattle.marks.specs.Accesses.{readSlot, dataTouches};
-ghost use Rattle.marks.specs.Room.{Room};
+ghost use Rattle.marks.specs.Accesses.{loadOf, dataTouches};
+ghost use Rattle.marks.specs.MarkRoom.{MarkRoom};
 
-// The data access of a work word, in slot e: a read loads its block, and a write touches it alone.
+// The data access of a work word, in position e: a read loads its block, and a write touches it alone.
 pub fn mark_data(
     cache: Cache,
     ways: usize,
@@ -30,10 +30,10 @@ pub fn mark_data(
     ecb: &mut [u64],
     marks: &mut [u32],
 ) -> u32
-    requires { ⌜ (Placing cache) × (Room base ways (now held) (now marks)) × (length (now ecb) ≡ 8) × (e < 2048) × (kindOf w ≤ 2) ⌝ }
-    ensures { λ r. ⌜ (r ≡ slotMissed base ways (placeIn cache (blockOf w)) (readSlot w) (now (held .entry)) + onlyIf (eqb (kindOf w) 2) 1)
-        × (now (held .exit) ≡ slotHeld base ways (placeIn cache (blockOf w)) (readSlot w) e (now (held .entry)))
-        × (now (marks .exit) ≡ slotMarks base ways (placeIn cache (blockOf w)) (readSlot w) e (now (held .entry)) (now (marks .entry)))
+    requires { ⌜ (Placing cache) × (MarkRoom base ways (now held) (now marks)) × (length (now ecb) ≡ 8) × (e < 2048) × (kindOf w ≤ 2) ⌝ }
+    ensures { λ r. ⌜ (r ≡ positionMissed base ways (placeIn cache (blockOf w)) (loadOf w) (now (held .entry)) + onlyIf (eqb (kindOf w) 2) 1)
+        × (now (held .exit) ≡ positionHeld base ways (placeIn cache (blockOf w)) (loadOf w) e (now (held .entry)))
+        × (now (marks .exit) ≡ positionMarks base ways (placeIn cache (blockOf w)) (loadOf w) e (now (held .entry)) (now (marks .entry)))
         × (now (ecb .exit) ≡ wordsOf 8 (λ (s : ℕ). member (now (ecb .entry)) s || dataTouches cache w s)) × (r ≤ 1) ⌝ }
 {
     let kind = work::kind(w);
@@ -51,7 +51,7 @@ pub fn mark_data(
     }
 }
 
-// A load of a block in slot e.
+// A load of a block in position e.
 pub fn mark_load(
     cache: Cache,
     ways: usize,
@@ -62,10 +62,10 @@ pub fn mark_load(
     ecb: &mut [u64],
     marks: &mut [u32],
 ) -> u32
-    requires { ⌜ (Placing cache) × (Room base ways (now held) (now marks)) × (length (now ecb) ≡ 8) × (e < 2048) × (block < 65536) ⌝ }
-    ensures { λ r. ⌜ (r ≡ slotMissed base ways (placeIn cache block) (block + 1) (now (held .entry)))
-        × (now (held .exit) ≡ slotHeld base ways (placeIn cache block) (block + 1) e (now (held .entry)))
-        × (now (marks .exit) ≡ slotMarks base ways (placeIn cache block) (block + 1) e (now (held .entry)) (now (marks .entry)))
+    requires { ⌜ (Placing cache) × (MarkRoom base ways (now held) (now marks)) × (length (now ecb) ≡ 8) × (e < 2048) × (block < 65536) ⌝ }
+    ensures { λ r. ⌜ (r ≡ positionMissed base ways (placeIn cache block) (block + 1) (now (held .entry)))
+        × (now (held .exit) ≡ positionHeld base ways (placeIn cache block) (block + 1) e (now (held .entry)))
+        × (now (marks .exit) ≡ positionMarks base ways (placeIn cache block) (block + 1) e (now (held .entry)) (now (marks .entry)))
         × (now (ecb .exit) ≡ wordsOf 8 (λ (s : ℕ). member (now (ecb .entry)) s || eqb (placeIn cache block) s)) × (r ≤ 1) ⌝ }
 {
     let s = place_of(cache, block);

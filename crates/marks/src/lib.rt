@@ -1,4 +1,4 @@
-// The scan of a trace under a cache or two: MD, the places that it touches, and a mark for each of its slots.
+// The scan of a trace under a cache or two: MD, the places that it touches, and a mark for each of its positions.
 mod accesses;
 mod loads;
 
@@ -20,10 +20,10 @@ ghost use Rattle.entries.specs.Marks.{Marked, AllEarlier, nextBase};
 ghost use Rattle.trace.specs.Cache.{placeOf};
 ghost use Rattle.trace.specs.Traces.{traceMD, evicts};
 ghost use Rattle.trace.specs.Places.{traceAt, Lies};
-ghost use Rattle.trace.specs.Slots.{loadAt};
+ghost use Rattle.trace.specs.Positions.{loadAt};
 
 // MD of a trace of a board with `count` caches: its loads that miss, and its writes. The places of all blocks that it touches are added to `ecb`, and each of its
-// slots is marked. `held` is room for the blocks of all places; it may have what earlier traces left there, since `base` is another for each trace.
+// positions is marked. `held` is room for the blocks of all places; it may have what earlier traces left there, since `base` is another for each trace.
 pub fn mark_trace(
     board: &[u32],
     count: usize,

@@ -1,13 +1,13 @@
-// A load into a set of a cache, in slot e of a trace. Each function tells what the load makes of the blocks held and of the marks, and gives 1 where it
+// A load into a set of a cache, in position e of a trace. Each function tells what the load makes of the blocks held and of the marks, and gives 1 where it
 // misses.
 use entries::touch;
 use folds::one_if;
 ghost use mathlib.Core.Path.{_≡_};
 ghost use Prim.Native.Nat.{_+_, _≤_, _<_};
-ghost use Rattle.entries.specs.Marks.{slotHeld, slotMarks, slotMissed};
-ghost use Rattle.marks.specs.Room.{Room};
+ghost use Rattle.entries.specs.Marks.{positionHeld, positionMarks, positionMissed};
+ghost use Rattle.marks.specs.MarkRoom.{MarkRoom};
 
-// A load into set s. Where it hits, the slot of the block's last load is marked as kept.
+// A load into set s. Where it hits, the position of the block's last load is marked as kept.
 pub fn mark_ways(
     base: u64,
     ways: usize,
@@ -17,9 +17,9 @@ pub fn mark_ways(
     held: &mut [u64],
     marks: &mut [u32],
 ) -> u32
-    requires { ⌜ (Room base ways (now held) (now marks)) × (s < 512) × (e < 2048) × (block < 65536) ⌝ }
-    ensures { λ r. ⌜ (r ≡ slotMissed base ways s (block + 1) (now (held .entry))) × (now (held .exit) ≡ slotHeld base ways s (block + 1) e (now (held .entry)))
-        × (now (marks .exit) ≡ slotMarks base ways s (block + 1) e (now (held .entry)) (now (marks .entry))) × (r ≤ 1) ⌝ }
+    requires { ⌜ (MarkRoom base ways (now held) (now marks)) × (s < 512) × (e < 2048) × (block < 65536) ⌝ }
+    ensures { λ r. ⌜ (r ≡ positionMissed base ways s (block + 1) (now (held .entry))) × (now (held .exit) ≡ positionHeld base ways s (block + 1) e (now (held .entry)))
+        × (now (marks .exit) ≡ positionMarks base ways s (block + 1) e (now (held .entry)) (now (marks .entry))) × (r ≤ 1) ⌝ }
 {
     let x = base + ((block as u64) + 1);
     let last = touch(held, s * ways, ways, base, x, e as u64);
@@ -33,7 +33,7 @@ pub fn mark_ways(
     0
 }
 
-// The same for sets that hold one block, without a branch on whether the load hits: where it misses, the other slot's mark is written as it was.
+// The same for sets that hold one block, without a branch on whether the load hits: where it misses, the other position's mark is written as it was.
 pub fn mark_one(
     base: u64,
     s: usize,
@@ -42,9 +42,9 @@ pub fn mark_one(
     held: &mut [u64],
     marks: &mut [u32],
 ) -> u32
-    requires { ⌜ (Room base 1 (now held) (now marks)) × (s < 512) × (e < 2048) × (block < 65536) ⌝ }
-    ensures { λ r. ⌜ (r ≡ slotMissed base 1 s (block + 1) (now (held .entry))) × (now (held .exit) ≡ slotHeld base 1 s (block + 1) e (now (held .entry)))
-        × (now (marks .exit) ≡ slotMarks base 1 s (block + 1) e (now (held .entry)) (now (marks .entry))) × (r ≤ 1) ⌝ }
+    requires { ⌜ (MarkRoom base 1 (now held) (now marks)) × (s < 512) × (e < 2048) × (block < 65536) ⌝ }
+    ensures { λ r. ⌜ (r ≡ positionMissed base 1 s (block + 1) (now (held .entry))) × (now (held .exit) ≡ positionHeld base 1 s (block + 1) e (now (held .entry)))
+        × (now (marks .exit) ≡ positionMarks base 1 s (block + 1) e (now (held .entry)) (now (marks .entry))) × (r ≤ 1) ⌝ }
 {
     let x = base + ((block as u64) + 1);
     let entry = held[s];

@@ -16,15 +16,15 @@ use Rattle.board.specs.Layout.{memory, cacheCount, ways}
 use Rattle.board.specs.Sound.{Sound}
 use Rattle.counts.specs.Planes.{setsOf}
 use Rattle.counts.specs.Turns.{takes}
-use Rattle.lru.specs.Slots.{slotSet, slotHits, slotKept, usefulBefore}
-use Rattle.lru.proofs.Slots.{useful-start, useful-few}
+use Rattle.lru.specs.Positions.{loadSet, positionHits, positionKept, usefulBefore}
+use Rattle.lru.proofs.Positions.{useful-start, useful-few}
 use Rattle.entries.specs.Marks.{markOf, Marked}
 use Rattle.entries.proofs.Counting.{mark-turn}
 use Rattle.trace.specs.Cache.{placeOf}
 use Rattle.trace.specs.Traces.{Trace, useful, usefulAt, mostUseful}
-use Rattle.trace.specs.Slots.{loadAt}
+use Rattle.trace.specs.Positions.{loadAt}
 use Rattle.trace.proofs.Caches.{place-low, place-low-one}
-use Rattle.trace.proofs.Sets.{usefulAt-places, usefulAt-one-cache, useful-slot}
+use Rattle.trace.proofs.Sets.{usefulAt-places, usefulAt-one-cache, useful-position}
 use Rattle.scan.specs.Levels.{Turning, atPoint, Levels}
 
 module _ (c : ℕ) (place : ℕ → ℕ) (ways : ℕ) (l : ℕ → ℕ) (low : (m : ℕ) → place m < setsOf c) where
@@ -34,9 +34,9 @@ module _ (c : ℕ) (place : ℕ → ℕ) (ways : ℕ) (l : ℕ → ℕ) (low : (
       omega (
         arith,
         low 0,
-        onlyIf-bound (not (eqb (l e) 0)) {a = 4 * slotSet place (l e)} {m = 1024 * c - 4} (omega (arith, low (l e - 1))),
-        onlyIf-bound (slotHits place ways l e) {a = 1} {m = 1} (omega arith),
-        onlyIf-bound (slotKept place ways l e (n - (e + 1))) {a = 1} {m = 1} (omega arith),
+        onlyIf-bound (not (eqb (l e) 0)) {a = 4 * loadSet place (l e)} {m = 1024 * c - 4} (omega (arith, low (l e - 1))),
+        onlyIf-bound (positionHits place ways l e) {a = 1} {m = 1} (omega arith),
+        onlyIf-bound (positionKept place ways l e (n - (e + 1))) {a = 1} {m = 1} (omega arith),
       )
 
   module _ (marks : List ℕ) (n : ℕ) (marked : Marked place ways l marks n) where
@@ -56,7 +56,7 @@ module _ (c : ℕ) (place : ℕ → ℕ) (ways : ℕ) (l : ℕ → ℕ) (low : (
 -- ---- a trace under c caches
 
 module _ (t : Trace) (sound : Sound (t .words)) (c : ℕ) (known : c ≡ cacheCount (t .words)) (some : 1 ≤ c) where
-  -- the numbers before each slot
+  -- the numbers before each position
   abbrev pub before : ℕ → ℕ → ℕ
   before = usefulBefore (placeOf (t .words)) (ways (t .words)) (loadAt t) (2 * t .len)
 
@@ -84,4 +84,4 @@ module _ (t : Trace) (sound : Sound (t .words)) (c : ℕ) (known : c ≡ cacheCo
   unfolding mostUseful
   most-useful test =
       maxTo-cong (atPoint c before test) (usefulAt t test) (t .len)
-      (λ p h. sumTo-cong _ _ (setsOf c) (λ s k. ap (onlyIf (test s)) (sym (useful-slot t cached p s (omega arith)))) ∙ useful-in test p)
+      (λ p h. sumTo-cong _ _ (setsOf c) (λ s k. ap (onlyIf (test s)) (sym (useful-position t cached p s (omega arith)))) ∙ useful-in test p)

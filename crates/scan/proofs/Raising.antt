@@ -14,7 +14,7 @@ use Rattle.figures.specs.Overhead.{evictedBy}
 use Rattle.figures.specs.Rows.{sameCore, onCoreOf, raised}
 use Rattle.figures.proofs.Rows.{raised-none, raised-more}
 use Rattle.scan.specs.Levels.{Turning, Shown, atPoint}
-use Rattle.scan.proofs.Slots.{Neither, point-keeps, point-adds}
+use Rattle.scan.proofs.Positions.{Neither, point-keeps, point-adds}
 use Rattle.scan.proofs.Counting.{Standing, standing-start, standing-turn, standing-end}
 
 module _ (b : List ℕ) (i c : ℕ) (f : ℕ → ℕ → ℕ) (len : ℕ) (row₀ : List ℕ) where

@@ -1,3 +1,3 @@
--- The numbers of useful blocks from slot to slot, and what the scan of a trace finds.
+-- The numbers of useful blocks from position to position, and what the scan of a trace finds.
 pub mod Levels
 pub mod Found

@@ -1,6 +1,6 @@
 // The points of a trace under a cache or two: the scan over its marks, whose useful blocks raise a row of overheads while it goes by. No point is kept.
 use board::fields;
-use counts::pass_mark;
+use counts::apply_mark;
 use figures::ECB_WORDS;
 use figures::row;
 ghost use mathlib.Core.Path.{_≡_};
@@ -17,7 +17,7 @@ ghost use Rattle.figures.specs.Rows.{Evicted, onCoreOf, raised};
 ghost use Rattle.figures.specs.Higher.{Higher};
 ghost use Rattle.scan.specs.Levels.{Turning, atPoint, Levels};
 
-// Raises the row by the points of a trace of task i, of `len` instructions, whose slots are marked. Where no task above it is on its core, there is nothing to
+// Raises the row by the points of a trace of task i, of `len` instructions, whose positions are marked. Where no task above it is on its core, there is nothing to
 // raise. A point is counted where a number grew since the last one that was and the next point loses a block, or the points end: whatever sets are counted, it
 // has the most useful blocks of all points since. `live` has the numbers of the point at hand.
 pub fn raise_points(
@@ -51,8 +51,8 @@ pub fn raise_points(
         if fresh & lost {
             row::raise(board, i, higher, evicted, &live, caches, planes, row);
         }
-        pass_mark(&mut live, caches, planes, x);
-        pass_mark(&mut live, caches, planes, y);
+        apply_mark(&mut live, caches, planes, x);
+        apply_mark(&mut live, caches, planes, y);
         fresh = fresh & !lost | gains(x, y);
         p += 1;
     }

@@ -12,8 +12,8 @@ use Rattle.board.specs.Layout as at
 use Rattle.board.specs.Sound.{Sound}
 use Rattle.figures.specs.Figures.{taskPD, taskMD}
 use Rattle.figures.specs.Overhead.{γ}
-use Rattle.figures.specs.Survey.{Held, Overheads}
-use Rattle.figures.proofs.Fillable.{held-tasks}
+use Rattle.figures.specs.Survey.{Surveyed, Overheads}
+use Rattle.figures.proofs.Fillable.{surveyed-tasks}
 use Rattle.figures.proofs.Bounds.{taskMD-bound, γ-bound}
 use Rattle.sums.specs.Sums.{memoryDemand}
 use Rattle.sums.specs.Chains.{Chained, Linked}
@@ -52,9 +52,9 @@ surveyable {b} {n} {w} room =
 
 -- what it leaves: the figures and the overheads are in w₁
 module _ {b : List ℕ} {n : ℕ} {w₀ w₁ sets : List ℕ} (room : Room b n w₀)
-    (surveyed : (Held b (at.tasks b) n w₁ sets) × (true ≡ true → Overheads b (at.tasks b) n w₁) × (length w₁ ≡ length w₀)) where
-  held : Held b n n w₁ sets
-  held = held-tasks (room .tasks) (surveyed .0)
+    (surveyed : (Surveyed b (at.tasks b) n w₁ sets) × (true ≡ true → Overheads b (at.tasks b) n w₁) × (length w₁ ≡ length w₀)) where
+  held : Surveyed b n n w₁ sets
+  held = surveyed-tasks (room .tasks) (surveyed .0)
 
   over : Overheads b n n w₁
   over = subst (λ (m : ℕ). Overheads b m n w₁) (sym (room .tasks)) (surveyed .1 refl)
@@ -77,7 +77,7 @@ module _ {b : List ℕ} {n : ℕ} {w₀ w₁ sets : List ℕ} (room : Room b n w
             omega (arith, demands i k row column, γ-bound b (room .sound) i k, taskMD-bound b (room .sound) k task);
       }
 
-  pub prepared : {w₂ : List ℕ} → Added n n w₁ w₂ → (Prepared b n w₂) × (length w₂ ≡ length w₀) × (Held b n n w₂ sets)
+  pub prepared : {w₂ : List ℕ} → Added n n w₁ w₂ → (Prepared b n w₂) × (length w₂ ≡ length w₀) × (Surveyed b n n w₂ sets)
   unfolding memoryDemand
   prepared {w₂} added = (
     record {

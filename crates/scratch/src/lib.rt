@@ -9,7 +9,7 @@ use interference::six;
 ghost use mathlib.Core.Path.{_≡_};
 ghost use Prim.Native.Nat.{_≤_, _<_};
 ghost use lib.ListN.{length};
-ghost use Rattle.figures.specs.Survey.{Held};
+ghost use Rattle.figures.specs.Survey.{Surveyed};
 ghost use Rattle.sums.specs.Sums.{taskSum};
 ghost use Rattle.sums.specs.Chains.{Linked};
 ghost use Rattle.sums.specs.Inputs.{CappedTimes};
@@ -49,7 +49,7 @@ fn add_md(n: usize, scratch: &mut [u32])
 pub fn prepare(board: &[u32], n: usize, scratch: &mut [u32], sets: &mut [u64; ECB_WORDS])
     requires { ⌜ Room (now board) n (now scratch) ⌝ }
     ensures { λ _. ⌜ (Prepared (now (board .entry)) n (now (scratch .exit))) × (length (now (scratch .exit)) ≡ length (now (scratch .entry)))
-        × (Held (now (board .entry)) n n (now (scratch .exit)) (now (sets .exit))) ⌝ }
+        × (Surveyed (now (board .entry)) n n (now (scratch .exit)) (now (sets .exit))) ⌝ }
 {
     survey::survey(board, n, true, scratch, sets);
     add_md(n, scratch);

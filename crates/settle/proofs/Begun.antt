@@ -10,7 +10,7 @@ use Rattle.folds.specs.Stored.{Stored}
 use Rattle.board.specs.Layout.{tasks}
 use Rattle.refusals.specs.declared.Verdict.{Verdict}
 use Rattle.refusals.specs.declared.Verdict.the-variants.{Passed, Refused}
-use Rattle.figures.specs.Survey.{Held}
+use Rattle.figures.specs.Survey.{Surveyed}
 use Rattle.figures.proofs.Fillable.{fillable-tasks, fillable-none}
 use Rattle.scratch.specs.Scratch.{Prepared}
 use Rattle.answers.specs.Answers.{ScratchAfter}
@@ -27,7 +27,7 @@ copied-words {n = n} {w = w} prepared = omega (arith, length-take-le (4 * n - 2 
 
 -- the figures are held by a copy of the words 2n .. 4n - 1
 held-copied : {b : List ℕ} {n : ℕ} {from to sets : List ℕ} (old : List ℕ) → Stored (λ k. getD (take (4 * n - 2 * n) (drop (2 * n) from)) k 0) (2 * n) (2 * n) old to
-    → Held b n n from sets → Held b n n to sets
+    → Surveyed b n n from sets → Surveyed b n n to sets
 held-copied {n = n} {from = from} {to = to} old copied held =
     record {
       pd = λ k h. word k (omega arith) ∙ held .pd k h;
@@ -40,7 +40,7 @@ held-copied {n = n} {from = from} {to = to} old copied held =
 
 module _ {b : List ℕ} {v : Verdict} {old : List ℕ} where
   pub begun-tasks : {n : ℕ} {new words sets : List ℕ} (free : List ℕ) → v ≡ Passed → n ≡ tasks b
-      → (Prepared b n new) × (length new ≡ length old) × (Held b n n new sets) → mostFigureWords ≤ length free
+      → (Prepared b n new) × (length new ≡ length old) × (Surveyed b n n new sets) → mostFigureWords ≤ length free
       → Stored (λ k. getD (take (4 * n - 2 * n) (drop (2 * n) new)) k 0) (2 * n) (2 * n) free words → Begun (Prepared b (tasks b)) b v n old new words sets
   begun-tasks {n = n} {new = new} free e all made room copied =
       let few : 4 * n ≤ mostFigureWords = omega (arith, all, made .0 .room .sound .tasks) in

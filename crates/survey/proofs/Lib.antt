@@ -3,4 +3,4 @@ pub mod Sets
 pub mod Evicted
 pub mod Rows
 pub mod Gathered
-pub mod Held
+pub mod Surveyed

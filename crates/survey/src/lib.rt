@@ -25,7 +25,7 @@ ghost use Rattle.figures.specs.Ready.{Ready};
 ghost use Rattle.figures.specs.Figures.{taskPD, taskMD, evicting};
 ghost use Rattle.figures.specs.Overhead.{reloads, γ};
 ghost use Rattle.figures.specs.Rows.{Evicting, Evicted, Cores, onCoreOf, raised};
-ghost use Rattle.figures.specs.Survey.{Held, Overheads, Written};
+ghost use Rattle.figures.specs.Survey.{Surveyed, Overheads, Written};
 
 // The figures of the tasks below count, and with `rows` the overheads of each with every task.
 pub fn survey(
@@ -37,7 +37,7 @@ pub fn survey(
 )
     requires { ⌜ (Sound (now board)) × (count ≤ tasks (now board)) × (4 * tasks (now board) ≤ length (now words))
         × (rows ≡ true → scratchWords (tasks (now board)) ≤ length (now words)) ⌝ }
-    ensures { λ _. ⌜ (Held (now (board .entry)) (tasks (now (board .entry))) count (now (words .exit)) (now (sets .exit)))
+    ensures { λ _. ⌜ (Surveyed (now (board .entry)) (tasks (now (board .entry))) count (now (words .exit)) (now (sets .exit)))
         × (rows ≡ true → Overheads (now (board .entry)) (tasks (now (board .entry))) count (now (words .exit)))
         × (length (now (words .exit)) ≡ length (now (words .entry))) ⌝ }
 {

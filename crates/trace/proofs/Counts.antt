@@ -15,12 +15,12 @@ use Rattle.folds.proofs.Folds.{sumTo-add, countTo-none, countTo-next, countTo-c
 use Rattle.board.specs.Layout.{memory, heldCode, heldData, ways, kindOf, blockOf, firstDataBlock}
 use Rattle.trace.specs.Traces.{Trace, fetch, work, reads, writes, dataBlock, loadsBy, loads, allLoads, busLoads, traceMD}
 use Rattle.lru.specs.Recency.{missCount}
-use Rattle.lru.specs.Slots.{slotMisses}
-use Rattle.lru.proofs.Slots.{misses-slots}
+use Rattle.lru.specs.Positions.{positionMisses}
+use Rattle.lru.proofs.Positions.{misses-positions}
 use Rattle.trace.specs.Cache.{placeOf}
-use Rattle.trace.specs.Slots.{loadAt, accesses}
+use Rattle.trace.specs.Positions.{loadAt, accesses}
 use Rattle.trace.proofs.Loads.{loadsBefore-next}
-use Rattle.trace.proofs.Slots.{after-loads}
+use Rattle.trace.proofs.Positions.{nextLoads-loads}
 
 module _ (t : Trace) where
   -- each instruction loads its block, and its data block where it reads
@@ -102,14 +102,14 @@ module _ (t : Trace) where
 
   -- memory 2 and 3
   pub traceMD-cached : 2 ≤ memory (t .words)
-      → countTo (slotMisses (placeOf (t .words)) (ways (t .words)) (loadAt t)) (2 * t .len) + countTo (writes t) (t .len) ≡ traceMD t
+      → countTo (positionMisses (placeOf (t .words)) (ways (t .words)) (loadAt t)) (2 * t .len) + countTo (writes t) (t .len) ≡ traceMD t
   unfolding busLoads
   traceMD-cached h =
       let count : busLoads t (suc (suc (memory (t .words) - 2))) ≡ missCount (placeOf (t .words)) (ways (t .words)) [] (allLoads t) = loads-cached (memory (t .words) - 2) in
       let kind : memory (t .words) ≡ suc (suc (memory (t .words) - 2)) = omega arith in
       ap (λ (k : ℕ). k + countTo (writes t) (t .len))
-      (misses-slots (placeOf (t .words)) (ways (t .words)) (loadAt t) (2 * t .len)
-      ∙ ap (missCount (placeOf (t .words)) (ways (t .words)) []) (after-loads t 0 (t .len)) ∙ sym count)
+      (misses-positions (placeOf (t .words)) (ways (t .words)) (loadAt t) (2 * t .len)
+      ∙ ap (missCount (placeOf (t .words)) (ways (t .words)) []) (nextLoads-loads t 0 (t .len)) ∙ sym count)
       ∙ md-is (suc (suc (memory (t .words) - 2))) kind
     where
       loads-cached : (m : ℕ) → busLoads t (suc (suc m)) ≡ missCount (placeOf (t .words)) (ways (t .words)) [] (allLoads t)

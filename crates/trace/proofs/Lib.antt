@@ -2,7 +2,7 @@
 pub mod Places
 pub mod Starts
 pub mod Loads
-pub mod Slots
+pub mod Positions
 pub mod Caches
 pub mod Sets
 pub mod Counts

@@ -13,7 +13,7 @@ use Rattle.board.specs.Layout.{memory, kindOf}
 use Rattle.lru.specs.Recency.{someIn}
 use Rattle.trace.specs.Cache.{placeOf}
 use Rattle.trace.specs.Traces.{Trace, fetch, work, dataBlock, touchedBy, evicts}
-use Rattle.trace.specs.Slots.{touches}
+use Rattle.trace.specs.Positions.{touches}
 
 module _ (t : Trace) where
   touches-is : (place : ℕ → ℕ) (p s : ℕ) → kindOf (work t p) ≤ 2 → someIn place s (touchedBy t p) ≡ touches t place p s

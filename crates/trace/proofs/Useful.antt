@@ -13,24 +13,24 @@ use Rattle.folds.specs.Folds.{onlyIf, sumWhere, countTo}
 use Rattle.board.specs.Layout.{memory, ways}
 use Rattle.board.specs.Sound.{Sound}
 use Rattle.lru.specs.Recency.{among, usefulBlock, usefulIn}
-use Rattle.lru.specs.Slots.{withSlot, before}
+use Rattle.lru.specs.Positions.{withLoad, before}
 use Rattle.lru.proofs.Lists.{among-none, among-behind}
 use Rattle.lru.proofs.Useful.{useful-count}
 use Rattle.lru.proofs.Blocks.{all-blocks}
 use Rattle.trace.specs.Cache.{placeOf, allSets}
 use Rattle.trace.specs.Traces.{Trace, fetch, reads, dataBlock, loadsBefore, loadsFrom, useful, usefulAt}
-use Rattle.trace.specs.Slots.{loadAt}
+use Rattle.trace.specs.Positions.{loadAt}
 use Rattle.trace.proofs.Caches.{place-low}
 use Rattle.trace.proofs.Sets.{usefulAt-places}
-use Rattle.trace.proofs.Slots.{slots-before}
+use Rattle.trace.proofs.Positions.{positions-before}
 
--- blocks that slots load are below n where each slot's number is at most n
+-- blocks that positions load are below n where each position's number is at most n
 before-small : (l : ℕ → ℕ) (n e m : ℕ) → ((i : ℕ) → i < e → l i ≤ n) → among m (before l e) ≡ true → m < n
 unfolding before
 before-small l n zero m few there = absurd (false≢true (sym (among-none m) ∙ there))
 before-small l n (suc e) m few there = go (before-small l n e m (λ i h. few i (omega arith))) (l e) (few e (omega arith)) there
   where
-    go : (among m (before l e) ≡ true → m < n) → (x : ℕ) → x ≤ n → among m (withSlot x (before l e)) ≡ true → m < n
+    go : (among m (before l e) ≡ true → m < n) → (x : ℕ) → x ≤ n → among m (withLoad x (before l e)) ≡ true → m < n
     go next zero h there = next there
     go next (suc y) h there = side (ℕ-discrete y m)
       where
@@ -39,9 +39,9 @@ before-small l n (suc e) m few there = go (before-small l n e m (λ i h. few i (
         side (no o) = next (sym (among-behind y m (before l e) o) ∙ there)
 
 module _ (t : Trace) (cached : 2 ≤ memory (t .words)) (p : ℕ) (small : (i : ℕ) → i < p → fetch t i < 65536) where
-  slot-small : (e : ℕ) → e < 2 * p → loadAt t e ≤ 65536
+  position-small : (e : ℕ) → e < 2 * p → loadAt t e ≤ 65536
   unfolding loadAt
-  slot-small e h = go (eqb (e % 2) 0) (reads t (e / 2))
+  position-small e h = go (eqb (e % 2) 0) (reads t (e / 2))
     where
       code : fetch t (e / 2) < 65536
       code = small (e / 2) (omega arith)
@@ -53,7 +53,7 @@ module _ (t : Trace) (cached : 2 ≤ memory (t .words)) (p : ℕ) (small : (i : 
 
   -- the blocks loaded before the point
   past-small : (m : ℕ) → among m (reverse (loadsBefore t p)) ≡ true → m < 65536
-  past-small m e = before-small (loadAt t) 65536 (2 * p) m slot-small (ap (among m) (slots-before t p) ∙ e)
+  past-small m e = before-small (loadAt t) 65536 (2 * p) m position-small (ap (among m) (positions-before t p) ∙ e)
 
   useful-is : (s : ℕ) → useful t p s ≡ usefulIn (placeOf (t .words)) (ways (t .words)) (reverse (loadsBefore t p)) (loadsFrom t p) s
   unfolding useful

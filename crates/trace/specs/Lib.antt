@@ -3,6 +3,6 @@ pub mod Cache
 pub mod Traces
 pub mod Places
 pub mod Starts
-pub mod Slots
+pub mod Positions
 pub mod Reciprocal
 pub mod Caches

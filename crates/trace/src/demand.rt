@@ -11,7 +11,7 @@ ghost use Rattle.folds.specs.Folds.{sumTo};
 ghost use Rattle.board.specs.Layout.{memory};
 ghost use Rattle.board.specs.Sound.{Sound};
 ghost use Rattle.trace.specs.Traces.{tracePD, traceMD};
-ghost use Rattle.trace.specs.Slots.{accesses};
+ghost use Rattle.trace.specs.Positions.{accesses};
 ghost use Rattle.trace.specs.Places.{traceAt, Lies};
 
 // PD: the cycles without memory.

@@ -19,7 +19,7 @@ returns c =
     let read = c .before .before .before .before .before in
     let start = read .before .before .before .before .before .before in
     let a = start .args in
-    let held = start .pre .0 .held in
+    let held = start .pre .0 .surveyed in
     let here = held .ecb (a .k) (start .pre .1) in
     λ i. record {
       core = read .before .before .before .core .ensures .0 i;

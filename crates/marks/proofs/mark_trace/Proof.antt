@@ -1,4 +1,4 @@
--- `marks::mark_trace` meets its contract. The invariant: the slots of the instructions before p have their marks, and their accesses and touched
+-- `marks::mark_trace` meets its contract. The invariant: the positions of the instructions before p have their marks, and their accesses and touched
 -- sets are in.
 -- Assumes nothing.
 use borrow.Author.Needs.{needs}
@@ -17,7 +17,7 @@ use Rattle.trace.specs.Caches.{CachesOf}
 use Rattle.trace.specs.declared.cache.Cache.{Cache}
 use Rattle.trace.specs.Traces.{Trace, writes}
 use Rattle.trace.specs.Places.{traceAt}
-use Rattle.trace.specs.Slots.{loadAt, touches}
+use Rattle.trace.specs.Positions.{loadAt, touches}
 use Rattle.trace.proofs.Counts.{traceMD-cached}
 use Rattle.trace.proofs.Places.{fetch-bound, kind-bound, data-block}
 use Rattle.marks.proofs.Evicting.{added, added-none, added-turn}
@@ -79,7 +79,7 @@ load-requires c κs =
         low = start .pre .4;
         few = few (at .before);
         entries = omega (arith, at .loop .inv .2, start .pre .6);
-        slots = at .loop .inv .4 .1;
+        positions = at .loop .inv .4 .1;
       },
       ap length (at .loop .inv .3) ∙ wordsOf-length 8 _,
       omega (arith, start .pre .1 .short),
@@ -97,7 +97,7 @@ add-n c =
     let start = top (at .before) in
     omega (arith, at .loop .inv .1, small (trace (at .before)) (at .before .index .result) (at .loop .p), loaded .mark-load .ensures .4, start .pre .1 .short)
 
--- the slot of the data access
+-- the position of the data access
 abbrev loaded-turn : tie.After-slice-known6 Inv μ → tie.In-loop Inv μ
 loaded-turn c = c .before .before .before .before .before .before .before .before .before .before .before .before
 
@@ -119,7 +119,7 @@ data-requires c κs =
         low = start .pre .4;
         few = few (at .before);
         entries = omega (arith, kept .1 .1 .1 .1 .1 .0, at .loop .inv .2, start .pre .6);
-        slots = omega (arith, kept .1 .1 .1 .1 .1 .1 .1 .0, at .loop .inv .4 .1);
+        positions = omega (arith, kept .1 .1 .1 .1 .1 .1 .1 .0, at .loop .inv .4 .1);
       },
       ap length (loaded .mark-load .ensures .3) ∙ wordsOf-length 8 _,
       omega (arith, turn .loop-test .taken, start .pre .1 .short),

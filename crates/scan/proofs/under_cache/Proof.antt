@@ -13,7 +13,7 @@ use Rattle.folds.specs.Folds.{onlyIf}
 use Rattle.folds.proofs.Lists.{fillTo-cong}
 use Rattle.bitset.specs.Bits.{member, wordsOf}
 use Rattle.board.specs.Layout.{core, ways, traceLength}
-use Rattle.lru.proofs.Slots.{useful-start}
+use Rattle.lru.proofs.Positions.{useful-start}
 use Rattle.entries.specs.Marks.{AllEarlier, baseOf}
 use Rattle.trace.specs.Cache.{placeOf}
 use Rattle.trace.specs.Traces.{Trace, traceOf, tracePD, traceMD, evicts, mostUseful}

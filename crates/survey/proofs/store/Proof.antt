@@ -9,7 +9,7 @@ use native.Mathlib.Omega.{arith}
 use borrow.Author.Needs.{needs}
 use lib.ListN.{length, set, length-set}
 use Rattle.folds.proofs.Stored.{stored-none}
-use Rattle.survey.proofs.Held.{stored}
+use Rattle.survey.proofs.Surveyed.{stored}
 use Rattle.survey.proofs.store.Statement.{statement}
 use Rattle.survey.proofs.store.Tie as tie
 

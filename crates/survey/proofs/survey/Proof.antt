@@ -15,17 +15,17 @@ use Rattle.entries.specs.Marks.{AllEarlier, baseOf}
 use Rattle.figures.specs.Ready.{Ready}
 use Rattle.trace.specs.Starts.{At}
 use Rattle.figures.specs.Rows.{Evicted, Cores}
-use Rattle.figures.specs.Survey.{Held, Overheads}
-use Rattle.figures.proofs.Fillable.{held-none}
+use Rattle.figures.specs.Survey.{Surveyed, Overheads}
+use Rattle.figures.proofs.Fillable.{surveyed-none}
 use Rattle.survey.proofs.Evicted.{cores-none}
 use Rattle.survey.proofs.Rows.{Row, row-none, row-next}
-use Rattle.survey.proofs.Held.{held-next, overheads-next}
+use Rattle.survey.proofs.Surveyed.{surveyed-next, overheads-next}
 use Rattle.survey.proofs.survey.Statement.{statement}
 use Rattle.survey.proofs.survey.Tie as tie
 
 abbrev Inv : tie.InvT-loop
 Inv b count rows words₀ sets₀ n caches cores₀ evicted₀ row₀ held₀ marks₀ higher₀ at₀ i₀ words sets cores evicted row held marks higher at i =
-    (i ≤ count) × (length words ≡ length words₀) × At b i 0 (at .trace) (at .start) × Cores b i cores × Evicted b i evicted × Held b n i words sets
+    (i ≤ count) × (length words ≡ length words₀) × At b i 0 (at .trace) (at .start) × Cores b i cores × Evicted b i evicted × Surveyed b n i words sets
     × (rows ≡ true → Row b i row × Overheads b n i words) × AllEarlier (baseOf (at .trace)) held
 
 abbrev μ : tie.MeasureT-loop
@@ -40,7 +40,7 @@ holds c =
       c .first .ensures,
       cores-none b,
       λ j l. absurd (not-suc-le-zero l),
-      held-none b _ _ _,
+      surveyed-none b _ _ _,
       (λ wanted. (row-none b, λ i j h l. absurd (not-suc-le-zero h))),
       λ j. omega (arith, getD-none {A = ℕ} 4096 j 0),
     )
@@ -113,7 +113,7 @@ again c =
       task .ensures .3,
       keep .ensures .1,
       keep .ensures .2,
-      held-next b n (at .loop .i) _ _ (a .rows) _ _ _ (below turn) (store .ensures .0) _ _ (task .ensures .0) (task .ensures .1) (keep .ensures .0) (at .loop .inv .5),
+      surveyed-next b n (at .loop .i) _ _ (a .rows) _ _ _ (below turn) (store .ensures .0) _ _ (task .ensures .0) (task .ensures .1) (keep .ensures .0) (at .loop .inv .5),
       (λ wanted.
           let row = row-next b (at .loop .i) (at .loop .row) _ (at .loop .inv .6 wanted .0) (task .ensures .4 wanted) in
           (row, overheads-next b n (at .loop .i) _ _ (a .rows) _ _ _ (below turn) (store .ensures .0) (few at) wanted row (at .loop .inv .6 wanted .1))),
@@ -126,7 +126,7 @@ returns c =
     let a = at .before .before .before .before .before .before .before .before .args in
     let b = now (a .board) in
     let end : at .loop .i ≡ a .count = omega (arith, at .loop .inv .0, c .loop-test .left) in (
-      subst₂ (λ (m k : ℕ). Held b m k (at .loop .words) (at .loop .sets)) (size at) end (at .loop .inv .5),
+      subst₂ (λ (m k : ℕ). Surveyed b m k (at .loop .words) (at .loop .sets)) (size at) end (at .loop .inv .5),
       λ wanted. subst₂ (λ (m k : ℕ). Overheads b m k (at .loop .words)) (size at) end (at .loop .inv .6 wanted .1),
       at .loop .inv .1,
     )

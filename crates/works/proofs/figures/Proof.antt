@@ -6,7 +6,7 @@ use native.Mathlib.Omega.{arith}
 use borrow.Author.Needs.{needs}
 use Rattle.board.specs.Layout.{tasks}
 use Rattle.refusals.specs.declared.Verdict.the-variants.{Passed}
-use Rattle.figures.proofs.Fillable.{fillable-tasks, fillable-none, held-tasks}
+use Rattle.figures.proofs.Fillable.{fillable-tasks, fillable-none, surveyed-tasks}
 use Rattle.checks.specs.Accepted.{FiguresTaken}
 use Rattle.checks.proofs.Accepted.{figures-taken}
 use Rattle.checks.specs.CallRefusals.{figuresRefusal}
@@ -47,7 +47,7 @@ figures-spec =
     let s = c .before .before in
     let i = s .before .before .before in
     let t = i .before .before in
-    let held = held-tasks (all i) (s .survey .ensures .0) in
+    let held = surveyed-tasks (all i) (s .survey .ensures .0) in
     let fillable = fillable-tasks (taken t .sound) (all i) (omega (arith, all i, start-of t .pre, s .survey .ensures .2, taken t .sound .tasks)) held in
     ((tasks-records _ (passed t) (all i), (fillable, omega (arith, all i, taken t .table))), outcome-value _ (passed t) (all i)))
     (λ c.

@@ -10,9 +10,9 @@ use denote.Ref.{now}
 use lib.Dec.{eqb}
 use Rattle.folds.specs.Folds.{onlyIf}
 use Rattle.board.specs.Layout.{kindOf, blockOf}
-use Rattle.entries.specs.Marks.{slotHeld, slotMarks, slotMissed}
+use Rattle.entries.specs.Marks.{positionHeld, positionMarks, positionMissed}
 use Rattle.trace.specs.Caches.{placeIn}
-use Rattle.marks.specs.Accesses.{readSlot, dataTouches}
+use Rattle.marks.specs.Accesses.{loadOf, dataTouches}
 use Rattle.marks.proofs.Steps.{idle-held, idle-marks, idle-missed, read-none, read-load}
 use Rattle.marks.proofs.Touched.{join-none, touch-words, touch-data}
 use Rattle.marks.proofs.accesses.mark_data.Statement.{statement}
@@ -28,10 +28,10 @@ executes c =
     let a = start .args in
     let s = placeIn (a .cache) (blockOf (a .w)) in
     let kind : kindOf (a .w) ≡ 0 = omega arith in
-    let idle : readSlot (a .w) ≡ 0 = read-none (a .w) (λ k. omega (arith, k, kind)) in (
-      omega (arith, not-written (a .w) (λ k. omega (arith, k, kind)), idle-missed (a .base) (a .ways) s (readSlot (a .w)) (a .e) (now (a .held)) (now (a .marks)) idle),
-      idle-held (a .base) (a .ways) s (readSlot (a .w)) (a .e) (now (a .held)) (now (a .marks)) idle,
-      idle-marks (a .base) (a .ways) s (readSlot (a .w)) (a .e) (now (a .held)) (now (a .marks)) idle,
+    let idle : loadOf (a .w) ≡ 0 = read-none (a .w) (λ k. omega (arith, k, kind)) in (
+      omega (arith, not-written (a .w) (λ k. omega (arith, k, kind)), idle-missed (a .base) (a .ways) s (loadOf (a .w)) (a .e) (now (a .held)) (now (a .marks)) idle),
+      idle-held (a .base) (a .ways) s (loadOf (a .w)) (a .e) (now (a .held)) (now (a .marks)) idle,
+      idle-marks (a .base) (a .ways) s (loadOf (a .w)) (a .e) (now (a .held)) (now (a .marks)) idle,
       join-none (now (a .ecb)) (dataTouches (a .cache) (a .w)) (start .pre .2) (c .before .before .before .slice-known2 .given) (λ s. rw (eq-eqb (kindOf (a .w)) 0 kind)),
       omega arith,
     )
@@ -44,11 +44,11 @@ reads c =
     let block = taken .block in
     let kind : kindOf (a .w) ≡ 1 = omega arith in
     let own : placeIn (a .cache) (block .result) ≡ placeIn (a .cache) (blockOf (a .w)) = ap (placeIn (a .cache)) (block .ensures .0) in
-    let load : block .result + 1 ≡ readSlot (a .w) = ap (λ (m : ℕ). m + 1) (block .ensures .0) ∙ read-load (a .w) kind in
+    let load : block .result + 1 ≡ loadOf (a .w) = ap (λ (m : ℕ). m + 1) (block .ensures .0) ∙ read-load (a .w) kind in
     let is = loaded .mark-load .ensures in (
-      omega (arith, not-written (a .w) (λ k. omega (arith, k, kind)), is .0, ap₂ (λ (k x : ℕ). slotMissed (a .base) (a .ways) k x (now (a .held))) own load),
-      is .1 ∙ ap₂ (λ (k x : ℕ). slotHeld (a .base) (a .ways) k x (a .e) (now (a .held))) own load,
-      is .2 ∙ ap₂ (λ (k x : ℕ). slotMarks (a .base) (a .ways) k x (a .e) (now (a .held)) (now (a .marks))) own load,
+      omega (arith, not-written (a .w) (λ k. omega (arith, k, kind)), is .0, ap₂ (λ (k x : ℕ). positionMissed (a .base) (a .ways) k x (now (a .held))) own load),
+      is .1 ∙ ap₂ (λ (k x : ℕ). positionHeld (a .base) (a .ways) k x (a .e) (now (a .held))) own load,
+      is .2 ∙ ap₂ (λ (k x : ℕ). positionMarks (a .base) (a .ways) k x (a .e) (now (a .held)) (now (a .marks))) own load,
       is .3 ∙ touch-data (now (a .ecb)) (a .cache) (a .w) own (λ k. omega (arith, k, kind)),
       is .4,
     )
@@ -61,11 +61,11 @@ writes c =
     let a = taken .before .before .before .before .before .before .before .args in
     let set = placeIn (a .cache) (blockOf (a .w)) in
     let kind : kindOf (a .w) ≡ 2 = omega arith in
-    let idle : readSlot (a .w) ≡ 0 = read-none (a .w) (λ k. omega (arith, k, kind)) in
+    let idle : loadOf (a .w) ≡ 0 = read-none (a .w) (λ k. omega (arith, k, kind)) in
     let written : onlyIf (eqb (kindOf (a .w)) 2) 1 ≡ 1 = ap (λ (b : Bool). onlyIf b 1) (eq-eqb (kindOf (a .w)) 2 kind) in (
-      omega (arith, written, idle-missed (a .base) (a .ways) set (readSlot (a .w)) (a .e) (now (a .held)) (now (a .marks)) idle),
-      idle-held (a .base) (a .ways) set (readSlot (a .w)) (a .e) (now (a .held)) (now (a .marks)) idle,
-      idle-marks (a .base) (a .ways) set (readSlot (a .w)) (a .e) (now (a .held)) (now (a .marks)) idle,
+      omega (arith, written, idle-missed (a .base) (a .ways) set (loadOf (a .w)) (a .e) (now (a .held)) (now (a .marks)) idle),
+      idle-held (a .base) (a .ways) set (loadOf (a .w)) (a .e) (now (a .held)) (now (a .marks)) idle,
+      idle-marks (a .base) (a .ways) set (loadOf (a .w)) (a .e) (now (a .held)) (now (a .marks)) idle,
       added .add-to .ensures ∙ touch-words (now (a .ecb)) (s .result)
           ∙ touch-data (now (a .ecb)) (a .cache) (a .w) (s .ensures .0 ∙ ap (placeIn (a .cache)) (taken .block2 .ensures .0)) (λ k. omega (arith, k, kind)),
       omega arith,

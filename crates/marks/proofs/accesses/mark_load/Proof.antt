@@ -8,7 +8,7 @@ use native.Mathlib.Omega.{arith}
 use denote.Ref.{now}
 use lib.Dec.{eqb}
 use Rattle.bitset.specs.Bits.{member, wordsOf}
-use Rattle.entries.specs.Marks.{slotHeld, slotMarks, slotMissed}
+use Rattle.entries.specs.Marks.{positionHeld, positionMarks, positionMissed}
 use Rattle.marks.proofs.Touched.{touch-words}
 use Rattle.marks.proofs.accesses.mark_load.Statement.{statement}
 use Rattle.marks.proofs.accesses.mark_load.Tie as tie
@@ -22,9 +22,9 @@ one c =
     let a = added .before .before .before .before .before .before .args in
     let way : 1 ≡ a .ways = sym (taken .if1 .taken) in
     let is = done .mark-one .ensures in (
-      is .0 ∙ ap₂ (λ (w k : ℕ). slotMissed (a .base) w k (a .block + 1) (now (a .held))) way (s .ensures .0),
-      is .1 ∙ ap₂ (λ (w k : ℕ). slotHeld (a .base) w k (a .block + 1) (a .e) (now (a .held))) way (s .ensures .0),
-      is .2 ∙ ap₂ (λ (w k : ℕ). slotMarks (a .base) w k (a .block + 1) (a .e) (now (a .held)) (now (a .marks))) way (s .ensures .0),
+      is .0 ∙ ap₂ (λ (w k : ℕ). positionMissed (a .base) w k (a .block + 1) (now (a .held))) way (s .ensures .0),
+      is .1 ∙ ap₂ (λ (w k : ℕ). positionHeld (a .base) w k (a .block + 1) (a .e) (now (a .held))) way (s .ensures .0),
+      is .2 ∙ ap₂ (λ (w k : ℕ). positionMarks (a .base) w k (a .block + 1) (a .e) (now (a .held)) (now (a .marks))) way (s .ensures .0),
       added .add-to .ensures ∙ touch-words (now (a .ecb)) _ ∙ ap (λ (k : ℕ). wordsOf 8 (λ t. member (now (a .ecb)) t || eqb k t)) (omega (arith, s .ensures .0)),
       is .3,
     )
@@ -36,9 +36,9 @@ several c =
     let s = added .before .before .place-of in
     let a = added .before .before .before .before .before .before .args in
     let is = done .mark-ways .ensures in (
-      is .0 ∙ ap (λ (k : ℕ). slotMissed (a .base) (a .ways) k (a .block + 1) (now (a .held))) (s .ensures .0),
-      is .1 ∙ ap (λ (k : ℕ). slotHeld (a .base) (a .ways) k (a .block + 1) (a .e) (now (a .held))) (s .ensures .0),
-      is .2 ∙ ap (λ (k : ℕ). slotMarks (a .base) (a .ways) k (a .block + 1) (a .e) (now (a .held)) (now (a .marks))) (s .ensures .0),
+      is .0 ∙ ap (λ (k : ℕ). positionMissed (a .base) (a .ways) k (a .block + 1) (now (a .held))) (s .ensures .0),
+      is .1 ∙ ap (λ (k : ℕ). positionHeld (a .base) (a .ways) k (a .block + 1) (a .e) (now (a .held))) (s .ensures .0),
+      is .2 ∙ ap (λ (k : ℕ). positionMarks (a .base) (a .ways) k (a .block + 1) (a .e) (now (a .held)) (now (a .marks))) (s .ensures .0),
       added .add-to .ensures ∙ touch-words (now (a .ecb)) _ ∙ ap (λ (k : ℕ). wordsOf 8 (λ t. member (now (a .ecb)) t || eqb k t)) (omega (arith, s .ensures .0)),
       is .3,
     )

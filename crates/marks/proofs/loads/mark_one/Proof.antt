@@ -13,7 +13,7 @@ there : tie.Need-slice-read-marks
 there c =
     let tested = c .before in
     let top = tested .before .before .before .before in
-    omega (arith, top .pre .0 .slots, length-set (now (top .args .marks)) (top .args .e) (4 * top .args .s + 2 * tested .one-if .result))
+    omega (arith, top .pre .0 .positions, length-set (now (top .args .marks)) (top .args .e) (4 * top .args .s + 2 * tested .one-if .result))
 
 returns : tie.Need-returns
 returns c =

@@ -37,7 +37,7 @@ there : tie.Need-slice-read-marks
 there c =
     let touched = c .before .before .before .before in
     let top = touched .before .before .before .before in
-    omega (arith, top .pre .0 .slots, touched .touch .ensures .2, length-set (now (top .args .marks)) (top .args .e) (4 * top .args .s + 2))
+    omega (arith, top .pre .0 .positions, touched .touch .ensures .2, length-set (now (top .args .marks)) (top .args .e) (4 * top .args .s + 2))
 
 hit : tie.Need-returns-2
 hit c =

@@ -23,7 +23,7 @@ use Rattle.figures.specs.Rows.{sameCore, onCoreOf, raised}
 use Rattle.figures.proofs.Rows.{raised-none}
 use Rattle.figures.proofs.Listed.{higher-none}
 use Rattle.scan.specs.Levels.{Turning, Shown, atPoint}
-use Rattle.scan.proofs.Slots.{slot-grows, slot-falls, slot-next, point-next}
+use Rattle.scan.proofs.Positions.{position-grows, position-falls, position-next, point-next}
 use Rattle.scan.proofs.Raising.{Scanned, scan-start, scan-turn, neither, or-last}
 use Rattle.scan.proofs.points.raise_points.Statement.{statement}
 use Rattle.scan.proofs.points.raise_points.Tie as tie
@@ -115,7 +115,7 @@ row-is c =
     (λ w. w .1 ∙ raised-none _ (a .i) (loop .row) (λ j h. onlyIf-zero (sameCore (now (a .board)) (a .i) j) _ (ap (λ (t : Bool). onlyIf t (count j)) (w .0 .left))))
     (c .if2 .came)
 
-fetch-asks : tie.Need-pass-mark-requires Inv μ
+fetch-asks : tie.Need-apply-mark-requires Inv μ
 fetch-asks c κs =
     let turn = c .before .before .before .before .before .before in
     let loop = at turn .loop in
@@ -128,12 +128,12 @@ fetch-asks c κs =
       planes-are turn .1,
       room turn,
       pre .4 .1,
-      slot-grows (a .caches) (level turn) (marks turn) (2 * a .len) (planes turn) (pre .3 .turning) (2 * loop .p) l small (loop .live) (here turn)
+      position-grows (a .caches) (level turn) (marks turn) (2 * a .len) (planes turn) (pre .3 .turning) (2 * loop .p) l small (loop .live) (here turn)
           (λ s h. level-few turn (2 * loop .p + 1) s),
-      slot-falls (a .caches) (level turn) (marks turn) (2 * a .len) (planes turn) (pre .3 .turning) (2 * loop .p) l small (loop .live) (here turn),
+      position-falls (a .caches) (level turn) (marks turn) (2 * a .len) (planes turn) (pre .3 .turning) (2 * loop .p) l small (loop .live) (here turn),
     )
 
-read-asks : tie.Need-pass-mark-requires-2 Inv μ
+read-asks : tie.Need-apply-mark-requires-2 Inv μ
 read-asks c κs =
     let passed = c .before .before in
     let turn = passed .before .before .before .before .before .before .before in
@@ -143,23 +143,23 @@ read-asks c κs =
     let l : 2 * loop .p + 1 < 2 * a .len = omega (arith, less turn) in
     let small = pre .3 .small (2 * loop .p + 1) l in
     let between =
-    slot-next (a .caches) (level turn) (marks turn) (2 * a .len) (planes turn) (pre .3 .turning) (2 * loop .p) (omega (arith, l)) (loop .live) _ (here turn) (passed .pass-mark .ensures .0) in (
+    position-next (a .caches) (level turn) (marks turn) (2 * a .len) (planes turn) (pre .3 .turning) (2 * loop .p) (omega (arith, l)) (loop .live) _ (here turn) (passed .apply-mark .ensures .0) in (
       small,
       planes-are turn .0,
       planes-are turn .1,
-      omega (arith, passed .pass-mark .ensures .1, room turn),
+      omega (arith, passed .apply-mark .ensures .1, room turn),
       pre .4 .1,
-      slot-grows (a .caches) (level turn) (marks turn) (2 * a .len) (planes turn) (pre .3 .turning) (2 * loop .p + 1) l small _ between
+      position-grows (a .caches) (level turn) (marks turn) (2 * a .len) (planes turn) (pre .3 .turning) (2 * loop .p + 1) l small _ between
           (λ s h. level-few turn (2 * loop .p + 1 + 1) s),
-      slot-falls (a .caches) (level turn) (marks turn) (2 * a .len) (planes turn) (pre .3 .turning) (2 * loop .p + 1) l small _ between,
+      position-falls (a .caches) (level turn) (marks turn) (2 * a .len) (planes turn) (pre .3 .turning) (2 * loop .p + 1) l small _ between,
     )
 
 again : tie.Need-loop-again Inv μ
 again c =
     let read = c .before .before in
-    let second = read .pass-mark2 in
+    let second = read .apply-mark2 in
     let fetched = read .before .before .before in
-    let first = fetched .pass-mark in
+    let first = fetched .apply-mark in
     let joined = fetched .before .before in
     let last = joined .before in
     let turn = last .before .before .before .before in
@@ -200,5 +200,5 @@ raise-points-spec =
     (λ c. omega (arith, short (c .before))) (λ c. omega (arith, short (c .before))) (λ c. omega (arith, less (c .before .before), top (c .before .before) .pre .6)) (λ c κs. search needs)
     (λ c κs. short (c .before .before .before)) (λ c. sym (at (c .before .before .before .before .before .before) .loop .inv .1)) raise-asks
     (λ c. sym (at (c .before .before .before .before .before .before) .loop .inv .1)) fetch-asks
-    (λ c. sym (c .before .before .pass-mark .ensures .1 ∙ at (c .before .before .before .before .before .before .before .before .before) .loop .inv .1)) read-asks
+    (λ c. sym (c .before .before .apply-mark .ensures .1 ∙ at (c .before .before .before .before .before .before .before .before .before) .loop .inv .1)) read-asks
     (λ c κs. search needs) (λ c. search needs) (λ c. search needs) again returns)

@@ -9,7 +9,7 @@ use Rattle.folds.proofs.Folds.{sumTo-none}
 use Rattle.folds.proofs.Loops.{at-end, sumTo-turn}
 use Rattle.board.specs.Layout.{cyclesOf}
 use Rattle.trace.specs.Traces.{work, tracePD}
-use Rattle.trace.specs.Slots.{accesses}
+use Rattle.trace.specs.Positions.{accesses}
 use Rattle.trace.specs.Places.{traceAt}
 use Rattle.trace.proofs.demand.demands_past.Statement.{statement}
 use Rattle.trace.proofs.demand.demands_past.Tie as tie

@@ -7,7 +7,7 @@ use native.Mathlib.Omega.{arith}
 use denote.Ref.{now}
 use Rattle.folds.specs.Folds.{sumTo}
 use Rattle.board.specs.Layout.{firstDataBlock}
-use Rattle.trace.specs.Slots.{accesses}
+use Rattle.trace.specs.Positions.{accesses}
 use Rattle.trace.specs.Places.{traceAt}
 use Rattle.trace.proofs.Places.{data-block}
 use Rattle.trace.proofs.Counts.{traceMD-none, traceMD-held}

@@ -12,7 +12,7 @@ use Rattle.folds.specs.Stored.{Stored}
 use Rattle.figures.specs.Figures.{taskPD, taskMD}
 use Rattle.figures.specs.Overhead.{γ}
 use Rattle.figures.specs.Rows.{Evicting}
-use Rattle.figures.specs.Survey.{Held, Overheads, Written}
+use Rattle.figures.specs.Survey.{Surveyed, Overheads, Written}
 use Rattle.figures.proofs.Rows.{row-within}
 use Rattle.survey.proofs.Rows.{Row, row-overhead}
 
@@ -35,8 +35,8 @@ stored n i p q m {at} rows row words after task room all e copy = record {
 
 module _ (b : List ℕ) (n i p q : ℕ) (rows : Bool) (row words words' : List ℕ) (task : i < n) (written : Written n i p q rows row words words') where
   -- the figures of one task more
-  pub held-next : (sets sets' : List ℕ) → p ≡ taskPD b i → q ≡ taskMD b i → Evicting b (i + 1) sets' → Held b n i words sets → Held b n (i + 1) words' sets'
-  held-next sets sets' pd md ecb held = record {
+  pub surveyed-next : (sets sets' : List ℕ) → p ≡ taskPD b i → q ≡ taskMD b i → Evicting b (i + 1) sets' → Surveyed b n i words sets → Surveyed b n (i + 1) words' sets'
+  surveyed-next sets sets' pd md ecb held = record {
     pd = λ k h. pd-at k h (ℕ-discrete k i);
     md = λ k h. md-at k h (ℕ-discrete k i);
     ecb = ecb;

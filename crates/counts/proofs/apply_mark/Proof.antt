@@ -1,4 +1,4 @@
--- `counts::pass_mark` meets its contract: after the first plane the numbers have moved but for the carries that go into the others, and of one plane none is left.
+-- `counts::apply_mark` meets its contract: after the first plane the numbers have moved but for the carries that go into the others, and of one plane none is left.
 -- Assumes nothing.
 use Prim.Native.Nat.{ℕ, _+_, _*_, _<_}
 use mathlib.Core.List.{List}
@@ -12,8 +12,8 @@ use borrow.Author.Needs.{needs}
 use Rattle.bitset.specs.Bits.{wordOf}
 use Rattle.counts.specs.Carries.{falls, Rippled}
 use Rattle.counts.proofs.Carries.{ripple-start, ripple-on, ripple-end}
-use Rattle.counts.proofs.pass_mark.Statement.{statement}
-use Rattle.counts.proofs.pass_mark.Tie as tie
+use Rattle.counts.proofs.apply_mark.Statement.{statement}
+use Rattle.counts.proofs.apply_mark.Tie as tie
 
 -- the word of the mark's set in the first plane
 module _ (c : tie.After-carry-of) where
@@ -81,8 +81,8 @@ rest c =
       on .carry-on .ensures .1 ∙ same-room carry,
     )
 
-pub pass-mark-spec : {M : Type 1} → statement M
-pass-mark-spec =
+pub apply-mark-spec : {M : Type 1} → statement M
+apply-mark-spec =
     tie.close
     (tie.spec (λ c κs. search needs) (λ c κs. search needs) (λ c. omega (arith, near c, top c .pre .4)) (λ c. there (c .before)) (λ c. omega (arith, near (c .before), top (c .before) .pre .4))
     (λ c. there (c .before)) (λ c. same-room (c .before .before)) one (λ c κs. search needs) asks

@@ -1,5 +1,5 @@
--- For the code: the loads of a trace as the code scans them: slot 2p is the fetch of instruction p, slot 2p + 1 its read; a slot holds the block + 1, and
--- 0 where it loads nothing. Only the code's loops and proofs/Slots.antt speak of slots: a reader of the definitions can pass this file by.
+-- For the code: the loads of a trace as the code scans them: position 2p is the fetch of instruction p, position 2p + 1 its read; a position holds the block + 1, and
+-- 0 where it loads nothing. Only the code's loops and proofs/Positions.antt speak of positions: a reader of the definitions can pass this file by.
 -- Assumes nothing.
 use Prim.Native.Nat.{ℕ, _+_, _/_, _%_}
 use mathlib.Core.Bool.{Bool, not, cond, _&&_, _||_}
@@ -8,7 +8,7 @@ use Rattle.folds.specs.Folds.{onlyIf}
 use Rattle.board.specs.Layout.{kindOf}
 use Rattle.trace.specs.Traces.{Trace, fetch, work, reads, writes, dataBlock}
 
--- slot e of a trace
+-- position e of a trace
 unfoldable pub loadAt : Trace → ℕ → ℕ
 loadAt t e = cond (eqb (e % 2) 0) (fetch t (e / 2) + 1) (cond (reads t (e / 2)) (dataBlock t (e / 2) + 1) 0)
 
