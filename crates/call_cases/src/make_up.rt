@@ -38,6 +38,10 @@ pub fn answer(given: &[u32], board: &[u32]) {
 
 fn print_parts(parts: [u64; 6]) {
     io::write_all(STDOUT_FILENO, b" |");
+    print_six(parts);
+}
+
+pub fn print_six(parts: [u64; 6]) {
     print_field(parts[0]);
     print_field(parts[1]);
     print_field(parts[2]);

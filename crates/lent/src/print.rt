@@ -1,8 +1,6 @@
-// An answer and the records of a table on standard output.
+// An outcome and the records of a table on standard output.
 use crate::MARK;
-use calls::Answer;
 use calls::Figure;
-use calls::MadeUp;
 use calls::Outcome;
 use folds::wide;
 use libc::STDOUT_FILENO;
@@ -21,16 +19,6 @@ pub fn outcome_large(outcome: Outcome, table: [Figure; 64]) {
     large(table);
 }
 
-pub fn answer_small(answer: Answer, table: [Figure; 3]) {
-    print_answer(answer);
-    small(table);
-}
-
-pub fn made_up_small(made: MadeUp, table: [Figure; 3]) {
-    print_made_up(made);
-    small(table);
-}
-
 // The value, or `bad` with number and place.
 pub fn print_outcome(outcome: Outcome) {
     match outcome {
@@ -39,52 +27,6 @@ pub fn print_outcome(outcome: Outcome) {
             end_line();
         }
         Outcome::Refused(number, place) => {
-            print_refusal(number, place);
-        }
-    }
-}
-
-// `ok` and the passes, `late` with the task and the passes, `spent`, or `bad` with number and place.
-fn print_answer(answer: Answer) {
-    match answer {
-        Answer::Times(passes) => {
-            io::write_all(STDOUT_FILENO, b"ok");
-            print_field(wide(passes));
-            end_line();
-        }
-        Answer::Late(task, passes) => {
-            io::write_all(STDOUT_FILENO, b"late");
-            print_field(wide(task));
-            print_field(wide(passes));
-            end_line();
-        }
-        Answer::Spent => {
-            io::write_all(STDOUT_FILENO, b"spent\n");
-        }
-        Answer::Refused(number, place) => {
-            print_refusal(number, place);
-        }
-    }
-}
-
-// `ok`, the six parts and the number of the largest, `spent`, or `bad` with number and place.
-fn print_made_up(made: MadeUp) {
-    match made {
-        MadeUp::Parts(parts, reason) => {
-            io::write_all(STDOUT_FILENO, b"ok");
-            print_field(parts.work);
-            print_field(parts.higher);
-            print_field(parts.own);
-            print_field(parts.others);
-            print_field(parts.blocking);
-            print_field(parts.refresh);
-            print_field(wide(reason));
-            end_line();
-        }
-        MadeUp::Spent => {
-            io::write_all(STDOUT_FILENO, b"spent\n");
-        }
-        MadeUp::Refused(number, place) => {
             print_refusal(number, place);
         }
     }
