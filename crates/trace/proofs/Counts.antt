@@ -47,24 +47,6 @@ module _ (t : Trace) where
       go true = refl
       go false = refl
 
-  -- ---- the accesses of one instruction, by its kind: f for the block x that it fetches, r for the work word w that it reads by
-
-  module _ (low high p f x : ℕ) (fetched : f ≡ onlyIf (leb low x) 1) (block : x ≡ fetch t p) where
-    fetch-is : f ≡ onlyIf (leb low (fetch t p)) 1
-    fetch-is = fetched ∙ ap (λ (m : ℕ). onlyIf (leb low m) 1) block
-
-    pub accesses-execute : kindOf (work t p) ≡ 0 → f ≡ accesses t low high p
-    unfolding accesses
-    accesses-execute k = rw k (omega (arith, fetch-is))
-
-    pub accesses-read : (r m : ℕ) → r ≡ onlyIf (leb high m) 1 → m ≡ blockOf (work t p) → kindOf (work t p) ≡ 1 → f + r ≡ accesses t low high p
-    unfolding accesses
-    accesses-read r m read block k = rw k (omega (arith, fetch-is, read ∙ ap (λ (x : ℕ). onlyIf (leb high x) 1) block))
-
-    pub accesses-write : kindOf (work t p) ≡ 2 → f + 1 ≡ accesses t low high p
-    unfolding accesses
-    accesses-write k = rw k (omega (arith, fetch-is))
-
   -- ---- their sum
 
   sum-is : (low high : ℕ) → sumTo (accesses t low high) (t .len)

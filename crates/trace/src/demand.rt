@@ -5,9 +5,11 @@ use board::FIRST_DATA_BLOCK;
 use board::fields;
 use board::work;
 use folds::one_if;
+ghost use mathlib.Core.Bool.{_&&_};
 ghost use mathlib.Core.Path.{_≡_};
 ghost use Prim.Native.Nat.{_<_, _≤_};
-ghost use Rattle.folds.specs.Folds.{sumTo};
+ghost use lib.Dec.{eqb};
+ghost use Rattle.folds.specs.Folds.{onlyIf, sumTo};
 ghost use Rattle.board.specs.Layout.{memory};
 ghost use Rattle.board.specs.Sound.{Sound};
 ghost use Rattle.trace.specs.Traces.{tracePD, traceMD};
@@ -54,7 +56,7 @@ pub fn uncached(board: &[u32], start: usize, len: usize) -> Demand
 
 // PD, and the bus accesses without a cache: fetches of blocks from low on, reads of blocks from high on, and writes.
 fn demands_past(board: &[u32], start: usize, len: usize, low: u32, high: u32) -> Demand
-    requires { ⌜ (Sound (now board)) × (Lies (now board) start len) ⌝ }
+    requires { ⌜ Lies (now board) start len ⌝ }
     ensures { λ r. ⌜ (r .md ≡ sumTo (accesses (traceAt (now (board .entry)) start len) low high) len)
         × (r .pd ≡ tracePD (traceAt (now (board .entry)) start len)) ⌝ }
 {
@@ -69,17 +71,36 @@ fn demands_past(board: &[u32], start: usize, len: usize, low: u32, high: u32) ->
     Demand { pd, md }
 }
 
-// The bus accesses of instruction p.
+// The bus accesses of instruction p. Its kind chooses what its data access counts, and no arm has work of its own, so that there is no branch on it and the sum
+// over a trace takes several instructions at a time.
 fn accesses_by(board: &[u32], start: usize, len: usize, p: usize, low: u32, high: u32) -> u32
-    requires { ⌜ (Sound (now board)) × (Lies (now board) start len) × (p < len) ⌝ }
-    ensures { λ r. ⌜ (r ≡ accesses (traceAt (now (board .entry)) start len) low high p) × (r ≤ 2) ⌝ }
+    requires { ⌜ (Lies (now board) start len) × (p < len) ⌝ }
+    ensures { λ r. ⌜ (r ≡ accesses (traceAt (now (board .entry)) start len) low high p) × (r ≤ 3) ⌝ }
 {
-    let fetched = one_if(low <= fetch_word(board, start, len, p));
+    let block = fetch_word(board, start, len, p);
     let w = work_word(board, start, len, p);
     let kind = work::kind(w);
+    let fetched = one_if(low <= block);
+    let read = read_by(kind, high <= work::block(w));
+    fetched + read + written_by(kind)
+}
+
+// A read counts one where its block is not held.
+fn read_by(kind: u32, past: bool) -> u32
+    ensures { λ r. ⌜ (r ≡ onlyIf (eqb kind 1 && past) 1) × (r ≤ 1) ⌝ }
+{
     match kind {
-        0 => fetched,
-        1 => fetched + one_if(high <= work::block(w)),
-        _ => fetched + 1,
+        1 => one_if(past),
+        _ => 0,
+    }
+}
+
+// A write counts one.
+fn written_by(kind: u32) -> u32
+    ensures { λ r. ⌜ (r ≡ onlyIf (eqb kind 2) 1) × (r ≤ 1) ⌝ }
+{
+    match kind {
+        2 => 1,
+        _ => 0,
     }
 }

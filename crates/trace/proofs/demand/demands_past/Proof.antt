@@ -17,7 +17,7 @@ use Rattle.trace.proofs.demand.demands_past.Tie as tie
 abbrev Inv-loop : tie.InvT-loop
 Inv-loop board start len low high pd₀ md₀ p₀ pd md p =
     (p ≤ len) × (pd ≤ 4095 * p) × (pd ≡ sumTo (λ i. cyclesOf (work (traceAt board start len) i)) p)
-    × (md ≤ 2 * p) × (md ≡ sumTo (accesses (traceAt board start len) low high) p)
+    × (md ≤ 3 * p) × (md ≡ sumTo (accesses (traceAt board start len) low high) p)
 
 abbrev μ-loop : tie.MeasureT-loop
 μ-loop board start len low high pd₀ md₀ p₀ pd md p = len - p
