@@ -14,11 +14,14 @@ ghost use Rattle.folds.specs.Folds.{countTo};
 ghost use Rattle.bitset.specs.Bits.{member, wordsOf};
 ghost use Rattle.bitset.specs.Records.{recordAt};
 
+// The words of a set.
+pub const SET_WORDS: usize = 8;
+
 // The set with nothing in it.
-pub fn empty() -> [u64; 8]
+pub fn empty() -> [u64; SET_WORDS]
     ensures { λ r. ⌜ r ≡ wordsOf 8 (λ (t : ℕ). false) ⌝ }
 {
-    [0u64; 8]
+    [0u64; SET_WORDS]
 }
 
 // Adds s to a set that is lent.
@@ -32,7 +35,7 @@ pub fn add_to(set: &mut [u64], s: usize)
 }
 
 // The numbers in a or in b.
-pub fn union(a: [u64; 8], b: [u64; 8]) -> [u64; 8]
+pub fn union(a: [u64; SET_WORDS], b: [u64; SET_WORDS]) -> [u64; SET_WORDS]
     ensures { λ r. ⌜ r ≡ wordsOf 8 (λ (t : ℕ). member a t || member b t) ⌝ }
 {
     [

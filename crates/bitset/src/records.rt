@@ -1,4 +1,5 @@
 // Records of a lent buffer, one set of eight words each, and their halves of four words.
+use super::SET_WORDS;
 ghost use mathlib.Core.Path.{_≡_};
 ghost use Prim.Native.Nat.{_+_, _*_, _<_};
 ghost use lib.ListN.{length, getD};
@@ -6,7 +7,7 @@ ghost use Rattle.folds.specs.Stored.{Stored};
 ghost use Rattle.bitset.specs.Records.{recordAt};
 
 // Record q.
-pub fn read(buffer: &[u64], q: usize) -> [u64; 8]
+pub fn read(buffer: &[u64], q: usize) -> [u64; SET_WORDS]
     requires { ⌜ 8 * q + 7 < length (now buffer) ⌝ }
     ensures { λ r. ⌜ r ≡ recordAt 8 (now (buffer .entry)) q ⌝ }
 {
@@ -24,7 +25,7 @@ pub fn read(buffer: &[u64], q: usize) -> [u64; 8]
 }
 
 // Stores the set as record q.
-pub fn write(buffer: &mut [u64], q: usize, set: [u64; 8])
+pub fn write(buffer: &mut [u64], q: usize, set: [u64; SET_WORDS])
     requires { ⌜ 8 * q + 7 < length (now buffer) ⌝ }
     ensures { λ _. ⌜ Stored (λ k. getD set k 0) (8 * q) 8 (now (buffer .entry)) (now (buffer .exit)) ⌝ }
 {

@@ -18,6 +18,9 @@ ghost use Rattle.counts.specs.Counted.{mostCounted, Counted};
 ghost use Rattle.counts.specs.Turns.{MarkApplied};
 ghost use Rattle.counts.specs.Carries.{moves, falls, Rippled};
 
+// The words of the most planes: four, of four words for each of two caches.
+pub const PLANE_WORDS: usize = 32;
+
 // No count is larger: 15 blocks, the most of four planes, in each set of two caches.
 pub const MOST_COUNTED: u32 = 7680;
 

@@ -272,7 +272,7 @@ module _ (place : ℕ → ℕ) (ways : ℕ) (l : ℕ → ℕ) (base : ℕ) where
     entry-other : (y : ℕ) → (m ≡ y → ⊥) → entryOf base l e y ≡ entryOf base l (suc e) y
     entry-other y n = ap (λ (x : ℕ). (base + suc y) * 2048 + x) (sym (last-other l y e (λ q. n (let z : suc m ≡ suc y = sym load ∙ q in omega (arith, z)))))
 
-    pub held-load : Held place ways l base array' sets (suc e)
+    held-load : Held place ways l base array' sets (suc e)
     held-load t h = go (ℕ-discrete (place m) t)
       where
         inside : s * ways + ways ≤ length array

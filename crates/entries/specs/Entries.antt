@@ -1,5 +1,5 @@
--- For the code: the blocks held in a set as words of an array, the last loaded first, each with the position of its last load: key × 2048 + position. The key is
--- base + block + 1, with another base for each trace: an entry that an earlier trace left has a key of no block of this one, so that no word is cleared. No
+-- For the code: the blocks held in a set as words of an array, the last loaded first, each with the position of its last load: key × 2048 + position. The key
+-- is base + block + 1, with another base for each trace: an entry that an earlier trace left has a key of no block of this one, so that no word is cleared. No
 -- block is held past such an entry.
 -- Assumes nothing.
 use Prim.Native.Nat.{ℕ, zero, suc, _+_, _/_, _%_}

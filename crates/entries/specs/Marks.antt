@@ -49,7 +49,8 @@ module _ (place : ℕ → ℕ) (ways : ℕ) (l : ℕ → ℕ) where
 
   -- the mark of position i, as known before position e: 4 × its set, 2 more where its load hits, and 1 more where the next load of its block, below e, hits
   unfoldable pub markOf : ℕ → ℕ → ℕ
-  markOf e i = onlyIf (not (eqb (l i) 0)) (4 * loadSet place (l i)) + 2 * onlyIf (positionHits place ways l i) 1 + onlyIf (positionKept place ways l i (e - (i + 1))) 1
+  markOf e i = onlyIf (not (eqb (l i) 0)) (4 * loadSet place (l i)) + 2 * onlyIf (positionHits place ways l i) 1
+      + onlyIf (positionKept place ways l i (e - (i + 1))) 1
 
   -- the marks of the positions below e
   abbrev pub Marked : List ℕ → ℕ → Type 0

@@ -2,6 +2,7 @@
 pub mod higher;
 pub mod row;
 
+use bitset::SET_WORDS;
 use bitset::records::four;
 use board::MOST_TASKS;
 use board::fields;
@@ -10,8 +11,8 @@ ghost use Prim.Native.Nat.{_<_};
 ghost use Rattle.figures.specs.Figures.{figureOf};
 ghost use Rattle.figures.specs.Survey.{Fillable};
 
-// The words of a set for each task: eight, for the places of two caches.
-pub const ECB_WORDS: usize = 8 * MOST_TASKS;
+// The words of a set for each task.
+pub const ECB_WORDS: usize = SET_WORDS * MOST_TASKS;
 
 // One record of the figures table: a task's core, T, D, PD, MD, and an ECB for each cache, the code's first.
 pub struct Figure {

@@ -1,5 +1,6 @@
 // A row of overheads: word j has γ(i, j) of the task i at hand.
 use super::ECB_WORDS;
+use board::MOST_TASKS;
 use counts::MOST_COUNTED;
 use counts::count_in;
 use folds::index;
@@ -30,12 +31,12 @@ pub fn place(n: usize, i: usize) -> usize
 pub fn raise(
     board: &[u32],
     i: usize,
-    higher: &[u32; 64],
+    higher: &[u32; MOST_TASKS],
     evicted: &[u64; ECB_WORDS],
     live: &[u64],
     caches: usize,
     planes: usize,
-    row: &mut [u32; 64],
+    row: &mut [u32; MOST_TASKS],
 )
     requires { ⌜ (Ready (now board) i) × (Higher (now board) i (now higher)) × (Evicted (now board) i (now evicted)) × (Between 1 2 caches) × (planes ≤ 4)
         × (4 * (planes * caches) ≤ length (now live)) ⌝ }
@@ -55,7 +56,7 @@ pub fn raise(
 // Raises word j of the row by the useful blocks in the sets of record j of `evicted`, which are no more than `most`: they are counted only where that is above
 // the word. A number that they are no more than.
 fn raise_word(
-    row: &mut [u32; 64],
+    row: &mut [u32; MOST_TASKS],
     j: usize,
     most: u32,
     live: &[u64],

@@ -200,15 +200,6 @@ pub countTo-cong : (test test' : ℕ → Bool) (n : ℕ) → ((k : ℕ) → k < 
 unfolding countTo
 countTo-cong test test' n all = sumTo-cong _ _ n (λ k h. ap (λ t. onlyIf t 1) (all k h))
 
--- a test that passes more
-pub countTo-subset : (test test' : ℕ → Bool) (n : ℕ) → ((k : ℕ) → k < n → test k ≡ true → test' k ≡ true) → countTo test n ≤ countTo test' n
-unfolding countTo
-countTo-subset test test' n all = sumTo-mono _ _ n (λ k h. go (test k) (test' k) (all k h))
-  where
-    go : (t t' : Bool) → (t ≡ true → t' ≡ true) → onlyIf t 1 ≤ onlyIf t' 1
-    go true t' f = rw (f refl) (omega arith)
-    go false t' f = zero-le
-
 pub countTo-bound : (test : ℕ → Bool) (n : ℕ) → countTo test n ≤ n
 unfolding countTo
 countTo-bound test n = omega (arith, mul-one n, sumTo-bound (λ k. onlyIf (test k) 1) n 1 (λ k h. onlyIf-bound (test k) (omega arith)))

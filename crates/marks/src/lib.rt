@@ -22,8 +22,8 @@ ghost use Rattle.trace.specs.Traces.{traceMD, evicts};
 ghost use Rattle.trace.specs.Places.{traceAt, Lies};
 ghost use Rattle.trace.specs.Positions.{loadAt};
 
-// MD of a trace of a board with `count` caches: its loads that miss, and its writes. The places of all blocks that it touches are added to `ecb`, and each of its
-// positions is marked. `held` is room for the blocks of all places; it may have what earlier traces left there, since `base` is another for each trace.
+// MD of a trace of a board with `count` caches: its loads that miss, and its writes. The places of all blocks that it touches are added to `ecb`, and each of
+// its positions is marked. `held` is room for the blocks of all places; it may have what earlier traces left there, since `base` is another for each trace.
 pub fn mark_trace(
     board: &[u32],
     count: usize,

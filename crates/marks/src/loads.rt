@@ -18,7 +18,8 @@ pub fn mark_ways(
     marks: &mut [u32],
 ) -> u32
     requires { ⌜ (MarkRoom base ways (now held) (now marks)) × (s < 512) × (e < 2048) × (block < 65536) ⌝ }
-    ensures { λ r. ⌜ (r ≡ positionMissed base ways s (block + 1) (now (held .entry))) × (now (held .exit) ≡ positionHeld base ways s (block + 1) e (now (held .entry)))
+    ensures { λ r. ⌜ (r ≡ positionMissed base ways s (block + 1) (now (held .entry)))
+        × (now (held .exit) ≡ positionHeld base ways s (block + 1) e (now (held .entry)))
         × (now (marks .exit) ≡ positionMarks base ways s (block + 1) e (now (held .entry)) (now (marks .entry))) × (r ≤ 1) ⌝ }
 {
     let x = base + ((block as u64) + 1);
@@ -43,7 +44,8 @@ pub fn mark_one(
     marks: &mut [u32],
 ) -> u32
     requires { ⌜ (MarkRoom base 1 (now held) (now marks)) × (s < 512) × (e < 2048) × (block < 65536) ⌝ }
-    ensures { λ r. ⌜ (r ≡ positionMissed base 1 s (block + 1) (now (held .entry))) × (now (held .exit) ≡ positionHeld base 1 s (block + 1) e (now (held .entry)))
+    ensures { λ r. ⌜ (r ≡ positionMissed base 1 s (block + 1) (now (held .entry)))
+        × (now (held .exit) ≡ positionHeld base 1 s (block + 1) e (now (held .entry)))
         × (now (marks .exit) ≡ positionMarks base 1 s (block + 1) e (now (held .entry)) (now (marks .entry))) × (r ≤ 1) ⌝ }
 {
     let x = base + ((block as u64) + 1);

@@ -1,7 +1,10 @@
 // One trace of a task: PD, MD and ECB, and what its useful blocks add to a row of overheads.
 mod points;
 
+use board::MOST_TASKS;
 use board::fields;
+use entries::HELD_WORDS;
+use entries::MARK_WORDS;
 use figures::ECB_WORDS;
 use folds::index;
 use marks::mark_trace;
@@ -21,20 +24,21 @@ ghost use Rattle.figures.specs.Rows.{Evicted};
 ghost use Rattle.figures.specs.Higher.{Higher};
 ghost use Rattle.scan.specs.Found.{Found};
 
-// PD and MD of one trace of task i of a board with this number of caches. Its evicting cache blocks are added to `ecb` and, with `rows`, the row is raised by its useful blocks. Without a
-// cache nothing is evicted or useful. `higher` has the tasks above task i on its core, and `held` no block of this trace or of a later one; `marks` is room to work in.
+// PD and MD of one trace of task i of a board with this number of caches. Its evicting cache blocks are added to `ecb` and, with `rows`, the row is raised by its
+// useful blocks. Without a cache nothing is evicted or useful. `higher` has the tasks above task i on its core, and `held` no block of this trace or of a later
+// one; `marks` is room to work in.
 pub fn scan_trace(
     board: &[u32],
     caches: usize,
     i: usize,
     at: Cursor,
     rows: bool,
-    higher: &[u32; 64],
+    higher: &[u32; MOST_TASKS],
     evicted: &[u64; ECB_WORDS],
     ecb: &mut [u64],
-    row: &mut [u32; 64],
-    held: &mut [u64; 4096],
-    marks: &mut [u32; 2048],
+    row: &mut [u32; MOST_TASKS],
+    held: &mut [u64; HELD_WORDS],
+    marks: &mut [u32; MARK_WORDS],
 ) -> Demand
     requires { ⌜ (Ready (now board) i) × (Starts (now board) (at .trace) (at .start)) × (Evicted (now board) i (now evicted))
         × (AllEarlier (baseOf (at .trace)) (now held)) × (length (now ecb) ≡ 8) × (caches ≡ cacheCount (now board))
@@ -68,12 +72,12 @@ fn under_cache(
     i: usize,
     at: Cursor,
     rows: bool,
-    higher: &[u32; 64],
+    higher: &[u32; MOST_TASKS],
     evicted: &[u64; ECB_WORDS],
     ecb: &mut [u64],
-    row: &mut [u32; 64],
-    held: &mut [u64; 4096],
-    marks: &mut [u32; 2048],
+    row: &mut [u32; MOST_TASKS],
+    held: &mut [u64; HELD_WORDS],
+    marks: &mut [u32; MARK_WORDS],
 ) -> Demand
     requires { ⌜ (Ready (now board) i) × (Starts (now board) (at .trace) (at .start)) × (Evicted (now board) i (now evicted))
         × (AllEarlier (baseOf (at .trace)) (now held)) × (length (now ecb) ≡ 8) × (caches ≡ cacheCount (now board)) × (1 ≤ caches)

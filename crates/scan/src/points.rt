@@ -1,5 +1,7 @@
 // The points of a trace under a cache or two: the scan over its marks, whose useful blocks raise a row of overheads while it goes by. No point is kept.
+use board::MOST_TASKS;
 use board::fields;
+use counts::PLANE_WORDS;
 use counts::apply_mark;
 use figures::ECB_WORDS;
 use figures::row;
@@ -17,18 +19,18 @@ ghost use Rattle.figures.specs.Rows.{Evicted, onCoreOf, raised};
 ghost use Rattle.figures.specs.Higher.{Higher};
 ghost use Rattle.scan.specs.Levels.{Turning, atPoint, Levels};
 
-// Raises the row by the points of a trace of task i, of `len` instructions, whose positions are marked. Where no task above it is on its core, there is nothing to
-// raise. A point is counted where a number grew since the last one that was and the next point loses a block, or the points end: whatever sets are counted, it
-// has the most useful blocks of all points since. `live` has the numbers of the point at hand.
+// Raises the row by the points of a trace of task i, of `len` instructions, whose positions are marked. Where no task above it is on its core, there is nothing
+// to raise. A point is counted where a number grew since the last one that was and the next point loses a block, or the points end: whatever sets are counted,
+// it has the most useful blocks of all points since. `live` has the numbers of the point at hand.
 pub fn raise_points(
     board: &[u32],
     i: usize,
     len: usize,
     caches: usize,
-    higher: &[u32; 64],
+    higher: &[u32; MOST_TASKS],
     evicted: &[u64; ECB_WORDS],
     marks: &[u32],
-    row: &mut [u32; 64],
+    row: &mut [u32; MOST_TASKS],
 )
     requires { ⌜ (Ready (now board) i) × (Higher (now board) i (now higher)) × (Evicted (now board) i (now evicted))
         × (Levels caches (now marks) (2 * len) (ways (now board))) × (Between 1 2 caches) × (len ≤ 1024) × (2 * len ≤ length (now marks)) ⌝ }
@@ -41,7 +43,7 @@ pub fn raise_points(
         return;
     }
     let planes = planes_for(fields::ways(board));
-    let mut live = [0u64; 32];
+    let mut live = [0u64; PLANE_WORDS];
     let mut fresh = false;
     let mut p: usize = 0;
     while p < len {

@@ -1,8 +1,12 @@
 // One walk over all tasks and their traces, for PD, MD, ECB and the overheads.
+use bitset::SET_WORDS;
 use bitset::records::read;
 use bitset::records::write;
 use board::MOST_SCRATCH;
+use board::MOST_TASKS;
 use board::fields;
+use entries::HELD_WORDS;
+use entries::MARK_WORDS;
 use figures::ECB_WORDS;
 use figures::higher;
 use figures::row;
@@ -27,6 +31,9 @@ ghost use Rattle.figures.specs.Overhead.{reloads, γ};
 ghost use Rattle.figures.specs.Rows.{Evicting, Evicted, Cores, onCoreOf, raised};
 ghost use Rattle.figures.specs.Survey.{Surveyed, Overheads, Written};
 
+// The words of a set for each of the cores, numbered from 1, and for the number 0.
+const CORE_WORDS: usize = SET_WORDS * 9;
+
 // The figures of the tasks below count, and with `rows` the overheads of each with every task.
 pub fn survey(
     board: &[u32],
@@ -43,12 +50,12 @@ pub fn survey(
 {
     let n = index(fields::tasks(board));
     let caches = index(fields::cache_count(board));
-    let mut cores = [0u64; 72];
+    let mut cores = [0u64; CORE_WORDS];
     let mut evicted = [0u64; ECB_WORDS];
-    let mut row = [0u32; 64];
-    let mut held = [0u64; 4096];
-    let mut marks = [0u32; 2048];
-    let mut higher = [0u32; 64];
+    let mut row = [0u32; MOST_TASKS];
+    let mut held = [0u64; HELD_WORDS];
+    let mut marks = [0u32; MARK_WORDS];
+    let mut higher = [0u32; MOST_TASKS];
     let mut at = cursor::first(board);
     let mut i: usize = 0;
     while i < count {
@@ -88,7 +95,7 @@ pub fn overhead(board: &[u32], i: usize, j: usize) -> u32
 struct Task {
     pd: u32,
     md: u32,
-    ecb: [u64; 8],
+    ecb: [u64; SET_WORDS],
     next: Cursor,
 }
 
@@ -101,10 +108,10 @@ fn survey_task(
     first: Cursor,
     rows: bool,
     ecbs: &[u64; ECB_WORDS],
-    row: &mut [u32; 64],
-    held: &mut [u64; 4096],
-    marks: &mut [u32; 2048],
-    higher: &mut [u32; 64],
+    row: &mut [u32; MOST_TASKS],
+    held: &mut [u64; HELD_WORDS],
+    marks: &mut [u32; MARK_WORDS],
+    higher: &mut [u32; MOST_TASKS],
 ) -> Task
     requires { ⌜ (Ready (now board) i) × (At (now board) i 0 (first .trace) (first .start)) × (Evicted (now board) i (now ecbs))
         × (AllEarlier (baseOf (first .trace)) (now held)) × (caches ≡ cacheCount (now board)) ⌝ }
@@ -153,9 +160,9 @@ fn survey_task(
 fn keep(
     board: &[u32],
     i: usize,
-    ecb: [u64; 8],
+    ecb: [u64; SET_WORDS],
     sets: &mut [u64; ECB_WORDS],
-    cores: &mut [u64; 72],
+    cores: &mut [u64; CORE_WORDS],
     evicted: &mut [u64; ECB_WORDS],
 )
     requires { ⌜ (Ready (now board) i) × (ecb ≡ wordsOf 8 (evicting (now board) i)) × (Evicting (now board) i (now sets))
@@ -171,7 +178,15 @@ fn keep(
 }
 
 // Writes PD and MD of task i to their words and, with `rows`, its row.
-fn store(words: &mut [u32], n: usize, i: usize, pd: u32, md: u32, rows: bool, row: &[u32; 64])
+fn store(
+    words: &mut [u32],
+    n: usize,
+    i: usize,
+    pd: u32,
+    md: u32,
+    rows: bool,
+    row: &[u32; MOST_TASKS],
+)
     requires { ⌜ (i < n) × (n ≤ 64) × (4 * n ≤ length (now words)) × (rows ≡ true → scratchWords n ≤ length (now words)) ⌝ }
     ensures { λ _. ⌜ (Written n i pd md rows (now (row .entry)) (now (words .entry)) (now (words .exit)))
         × (length (now (words .exit)) ≡ length (now (words .entry))) ⌝ }

@@ -12,7 +12,7 @@ use lib.Dec.{leb}
 use lib.ListN.{length, length-append}
 use Rattle.folds.specs.Folds.{onlyIf, sumTo, countTo}
 use Rattle.folds.proofs.Folds.{sumTo-add, countTo-none, countTo-next, countTo-cong}
-use Rattle.board.specs.Layout.{memory, heldCode, heldData, ways, kindOf, blockOf, firstDataBlock}
+use Rattle.board.specs.Layout.{memory, heldCode, heldData, ways, kindOf, firstDataBlock}
 use Rattle.trace.specs.Traces.{Trace, fetch, work, reads, writes, dataBlock, loadsBy, loads, allLoads, busLoads, traceMD}
 use Rattle.lru.specs.Recency.{missCount}
 use Rattle.lru.specs.Positions.{positionMisses}

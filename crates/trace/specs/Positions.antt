@@ -1,5 +1,5 @@
--- For the code: the loads of a trace as the code scans them: position 2p is the fetch of instruction p, position 2p + 1 its read; a position holds the block + 1, and
--- 0 where it loads nothing. Only the code's loops and proofs/Positions.antt speak of positions: a reader of the definitions can pass this file by.
+-- For the code: the loads of a trace as the code scans them: position 2p is the fetch of instruction p, position 2p + 1 its read; a position holds the block + 1,
+-- and 0 where it loads nothing. Only the code's loops and proofs/Positions.antt speak of positions: a reader of the definitions can pass this file by.
 -- Assumes nothing.
 use Prim.Native.Nat.{ℕ, _+_, _/_, _%_}
 use mathlib.Core.Bool.{Bool, not, cond, _&&_, _||_}
