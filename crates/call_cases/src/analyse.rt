@@ -1,11 +1,11 @@
 // Calls 4 and 10: what `zuzgravel_analyse` and `zuzgravel_analyse_in_order` leave in every buffer that they are lent, with room for three tasks.
+use crate::print::end_line;
+use crate::print::print_field;
+use crate::print::print_fields;
 use capi::zuzgravel_analyse;
 use capi::zuzgravel_analyse_in_order;
 use folds::wide;
 use libc::STDOUT_FILENO;
-use lines::print::end_line;
-use lines::print::print_field;
-use lines::print::print_fields;
 
 // The code and the two words of the answer, the six words of times, which were all 7, and the words of three records with 20 to spare, which were all 9.
 pub fn answer(board: &[u32]) {

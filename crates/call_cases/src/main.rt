@@ -3,8 +3,12 @@
 // with whole lines of which the first has a board; a line of dots fills a block up.
 mod analyse;
 mod board_page;
+mod lent;
+mod lines;
 mod make_up;
 mod overheads;
+mod print;
+mod records;
 mod tables;
 mod task;
 mod verdict;

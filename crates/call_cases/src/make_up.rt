@@ -1,10 +1,10 @@
 // Calls 12 and 14: what `zuzgravel_make_up` leaves in every buffer that it is lent, with room for three tasks, and the page of the program `makeup`.
 use crate::analyse::print_buffers;
 use crate::analyse::print_code;
+use crate::print::print_field;
 use crate::task::task;
 use capi::zuzgravel_make_up;
 use libc::STDOUT_FILENO;
-use lines::print::print_field;
 ghost use Prim.Native.Nat.{_≤_};
 ghost use lib.ListN.{length};
 ghost use Rattle.io.specs.Counts.{Counts};

@@ -1,12 +1,12 @@
 // Calls 8 and 9: the overhead of two tasks, and rows of overheads, by `calls::overhead`.
+use crate::print::end_line;
+use crate::print::print_field;
+use crate::records::print_outcome;
 use crate::task::task;
 use calls::Outcome;
 use calls::overhead;
 use folds::index;
-use lent::print::print_outcome;
 use libc::STDOUT_FILENO;
-use lines::print::end_line;
-use lines::print::print_field;
 
 // The words are the halves of i and of j. The overhead, or `bad` with number and place.
 pub fn one(given: &[u32], board: &[u32]) {

@@ -1,19 +1,19 @@
 // Calls 2 and 6: `calls::figures` with a lent table, every record of which is marked before. Calls 7, 11 and 13: the calls for C that have Analyse's buffers, with
 // room for three records, marked and printed as those are.
+use crate::lent::MARK;
+use crate::lent::figures_large;
+use crate::lent::figures_small;
+use crate::lent::marked;
 use crate::make_up::print_six;
+use crate::print::end_line;
+use crate::print::print_field;
+use crate::print::print_fields;
 use crate::task::task;
 use capi::zuzgravel_analyse;
 use capi::zuzgravel_analyse_in_order;
 use capi::zuzgravel_make_up;
 use folds::wide;
-use lent::MARK;
-use lent::figures_large;
-use lent::figures_small;
-use lent::marked;
 use libc::STDOUT_FILENO;
-use lines::print::end_line;
-use lines::print::print_field;
-use lines::print::print_fields;
 ghost use Prim.Native.Nat.{_≤_};
 
 // The number of records filled, or `bad` with number and place; then a line for each record that is not as it was, and `same` with how many of 64 are.

@@ -1,6 +1,6 @@
 // Call 1: the verdict of `refusals::check`.
+use crate::print::print_refusal;
 use libc::STDOUT_FILENO;
-use lines::print::print_refusal;
 use refusals::Verdict;
 
 // `ok`, or `bad` with number and place.

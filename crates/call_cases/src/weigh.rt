@@ -1,7 +1,7 @@
 // Call 3: the sum of a task at given times, by `calls::weigh`.
+use crate::records::print_outcome;
 use crate::task::task;
 use calls::weigh;
-use lent::print::print_outcome;
 
 // The first words are the halves of the task's number, the others are the times. The sum, or `bad` with number and place.
 pub fn answer(given: &[u32], board: &[u32]) {

@@ -1,11 +1,11 @@
--- `lines::read_number` is safe and ends, within the text.
+-- `call_cases::lines::read_number` is safe and ends, within the text.
 -- Assumes nothing.
 use Prim.Native.Nat.{_-_, _≤_}
 use native.Mathlib.Omega.{arith}
 use borrow.Author.Needs.{needs}
 use lib.ListN.{length}
-use Rattle.lines.proofs.read_number.Statement.{statement}
-use Rattle.lines.proofs.read_number.Tie as tie
+use Rattle.call_cases.proofs.lines.read_number.Statement.{statement}
+use Rattle.call_cases.proofs.lines.read_number.Tie as tie
 
 abbrev Inv-loop : tie.InvT-loop
 Inv-loop text from at₀ value₀ at value = (from ≤ at) × (at ≤ length text)

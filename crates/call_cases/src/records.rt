@@ -1,12 +1,12 @@
 // An outcome and the records of a table on standard output.
-use crate::MARK;
+use crate::lent::MARK;
+use crate::print::end_line;
+use crate::print::print_field;
+use crate::print::print_refusal;
 use calls::Figure;
 use calls::Outcome;
 use folds::wide;
 use libc::STDOUT_FILENO;
-use lines::print::end_line;
-use lines::print::print_field;
-use lines::print::print_refusal;
 ghost use Prim.Native.Nat.{_≤_};
 
 pub fn outcome_small(outcome: Outcome, table: [Figure; 3]) {

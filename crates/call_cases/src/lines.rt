@@ -1,6 +1,4 @@
 // Words as text, a line at a time: in decimal, and x*n for n words x.
-pub mod print;
-
 use folds::index;
 ghost use Prim.Native.Nat.{_≤_, _<_};
 ghost use mathlib.Core.Path.{_≡_};

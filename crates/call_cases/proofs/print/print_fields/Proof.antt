@@ -1,10 +1,10 @@
--- `lines::print::print_fields` is safe and ends.
+-- `call_cases::print::print_fields` is safe and ends.
 -- Assumes nothing.
 use Prim.Native.Nat.{_-_}
 use borrow.Author.Needs.{needs}
 use lib.ListN.{length}
-use Rattle.lines.proofs.print.print_fields.Statement.{statement}
-use Rattle.lines.proofs.print.print_fields.Tie as tie
+use Rattle.call_cases.proofs.print.print_fields.Statement.{statement}
+use Rattle.call_cases.proofs.print.print_fields.Tie as tie
 
 abbrev Inv-loop : tie.InvT-loop
 Inv-loop words k₀ k = Unit {0}

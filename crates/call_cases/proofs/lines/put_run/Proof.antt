@@ -1,12 +1,12 @@
--- `lines::put_run` is safe, and its count lies within the words: the loop keeps their number.
+-- `call_cases::lines::put_run` is safe, and its count lies within the words: the loop keeps their number.
 -- Assumes nothing.
 use Prim.Native.Nat.{_-_}
 use mathlib.Core.Path.{_≡_, refl}
 use native.Mathlib.Omega.{arith}
 use borrow.Author.Needs.{needs}
 use lib.ListN.{length, length-set}
-use Rattle.lines.proofs.put_run.Statement.{statement}
-use Rattle.lines.proofs.put_run.Tie as tie
+use Rattle.call_cases.proofs.lines.put_run.Statement.{statement}
+use Rattle.call_cases.proofs.lines.put_run.Tie as tie
 
 abbrev Inv-loop : tie.InvT-loop
 Inv-loop words₀ count x times end i₀ words i = length words ≡ length words₀

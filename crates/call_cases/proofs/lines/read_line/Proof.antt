@@ -1,4 +1,4 @@
--- `lines::read_line` is safe and ends, and its count lies within the words.
+-- `call_cases::lines::read_line` is safe and ends, and its count lies within the words.
 -- Assumes nothing.
 use Prim.Native.Nat.{_-_, _≤_}
 use mathlib.Core.Path.{_≡_, refl, sym}
@@ -6,8 +6,8 @@ use native.Mathlib.Omega.{arith}
 use borrow.Author.Needs.{needs}
 use lib.ListN.{length}
 use lib.Seq.{length-take-le}
-use Rattle.lines.proofs.read_line.Statement.{statement}
-use Rattle.lines.proofs.read_line.Tie as tie
+use Rattle.call_cases.proofs.lines.read_line.Statement.{statement}
+use Rattle.call_cases.proofs.lines.read_line.Tie as tie
 
 abbrev Inv-loop : tie.InvT-loop
 Inv-loop text from words₀ at₀ count₀ words at count =

@@ -1,10 +1,10 @@
--- `lent::print::large` is safe and ends: no more records are counted than are passed.
+-- `call_cases::records::large` is safe and ends: no more records are counted than are passed.
 -- Assumes nothing.
 use Prim.Native.Nat.{_-_, _≤_}
 use native.Mathlib.Omega.{arith}
 use borrow.Author.Needs.{needs}
-use Rattle.lent.proofs.print.large.Statement.{statement}
-use Rattle.lent.proofs.print.large.Tie as tie
+use Rattle.call_cases.proofs.records.large.Statement.{statement}
+use Rattle.call_cases.proofs.records.large.Tie as tie
 
 abbrev Inv : tie.InvT-loop
 Inv table same₀ k₀ t5 same k = same ≤ k

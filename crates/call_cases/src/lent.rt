@@ -1,6 +1,6 @@
 // `calls::figures` with a table that is handed in by value: it is lent to the call, and then printed with the outcome. Tables of three records and of 64.
-pub mod print;
-
+use crate::records::outcome_large;
+use crate::records::outcome_small;
 use calls::Figure;
 use folds::wide;
 
@@ -9,12 +9,12 @@ pub const MARK: u32 = 9;
 
 pub fn figures_small(board: &[u32], mut table: [Figure; 3]) {
     let outcome = calls::figures(board, &mut table);
-    print::outcome_small(outcome, table);
+    outcome_small(outcome, table);
 }
 
 pub fn figures_large(board: &[u32], mut table: [Figure; 64]) {
     let outcome = calls::figures(board, &mut table);
-    print::outcome_large(outcome, table);
+    outcome_large(outcome, table);
 }
 
 // What a record is before a call.
