@@ -8,7 +8,7 @@
 --         answer
 --     }
 --     g                    the buffers: the times and the scratch, or none (`Buffers.antt`)
---     xs                   the further parameters, each a number or a `&'a [T]` (`Extras.antt`); a call that has none takes []
+--     xs                   the further parameters, each a number, a `&'a [T]` or an enum (`Extras.antt`); a call that has none takes []
 --     Refuse               the verdict, of the board, the buffers, the table's length and the values of xs
 --     Done                 what `work` promises of its answer and of the buffers
 --     Pre, Ask             what the call asks, and what `work` does
@@ -150,7 +150,8 @@ module _ (S : RattleType) (g : Buffers) (xs : List Extra) (Refuse : List ℕ →
 
     abbrev lateTys : List Ty
     lateTys =
-        tyInt w64 ∷ tyRef erased mut (tyInt w64) ∷ tyRef erased mut (tyArray (tyInt w32) mostFigureWords) ∷ sliceTy (tyRef erased mut (tyInt w32)) ∷ tyRef erased mut (tyArray (tyInt w64) ecbWords)
+        tyInt w64 ∷ tyRef erased mut (tyInt w64) ∷ tyRef erased mut (tyArray (tyInt w32) mostFigureWords) ∷ sliceTy (tyRef erased mut (tyInt w32))
+        ∷ tyRef erased mut (tyArray (tyInt w64) ecbWords)
         ∷ tyUnit ∷ tyRef erased imm (tyArray (tyInt w32) mostFigureWords) ∷ sliceTy (tyRef erased imm (tyInt w32)) ∷ tyRef erased imm (tyArray (tyInt w64) ecbWords)
         ∷ tyRef erased mut (pointee (T.the-row .written)) ∷ sliceTy (tyRef erased mut (pointee (T.the-row .written))) ∷ []
 
@@ -189,7 +190,8 @@ module _ (S : RattleType) (g : Buffers) (xs : List Extra) (Refuse : List ℕ →
     }
 
     module _ {M : Type 1} (𝓤 : URA M) (H : Heap 𝓤) (A : Atoms 𝓤) (W : Given 𝓤 H A) (at-mem : Memory → SProp 𝓤) (run : Routine → Fun 𝓤)
-        (Pre : List ℕ → Lists g → ℕ → Values xs → Type 0) (asks : (b : List ℕ) (h : Handed g xs) → length (now (h .words)) ≡ mostFigureWords → Pre b (lists g (h .buffers)) (h .room) (h .extras) → Ask b h)
+        (Pre : List ℕ → Lists g → ℕ → Values xs → Type 0)
+        (asks : (b : List ℕ) (h : Handed g xs) → length (now (h .words)) ≡ mostFigureWords → Pre b (lists g (h .buffers)) (h .room) (h .extras) → Ask b h)
         (Requires : (κs : Lfts (called g)) → Args (ended xs g S .signature) κs → SProp 𝓤)
         (opens : (κs : Lfts (called g)) (a : Args (ended xs g S .signature) κs) (P Q : SProp 𝓤) → let o = opened xs g κs (a .1) in
         (Pre (now (a .0)) (lists g (o .buffers)) (length (now (o .table))) (o .extras) → ent 𝓤 P Q) → ent 𝓤 (sep 𝓤 P (Requires κs a)) Q)
@@ -329,8 +331,10 @@ module _ (S : RattleType) (g : Buffers) (xs : List Extra) (Refuse : List ℕ →
               use1 W (later (some (λ (γ : GName). ‵ (MutRef (named 1) (ν₁ ∷ []) usize .own (lent l₃ 0 γ) (vptr l₃ 0 ∷ [])) ⊛ ‵
               (flent (ν₁ ∷ []) (Body (mem usize) l₃ 0 γ))))) (lends-ref 𝓤 H A W usize (named 1) (ν₁ ∷ []) 0 l₃ 0) $
               await ! tt $ pick ! (λ γ₁. split ! $
-              move ! (34 ∷ 6 ∷ []) $ use2 W (‵ (partAt Words fullShare (zeros mostFigureWords) l₄ 0)) (local-in 𝓤 H A W Words (tyArray (tyInt w32) mostFigureWords) refl (zeros mostFigureWords) l₄ (zeroVal w32 mostFigureWords)) $
-              use1 W (‵ (arr-parts (shares u32) mostFigureWords .part fullShare (zeros mostFigureWords) l₄ 0)) (array-apart 𝓤 H A W u32 fullShare tt mostFigureWords (zeros mostFigureWords) l₄ 0) $ fsplit ! $ drop ! $
+              move ! (34 ∷ 6 ∷ []) $ use2 W (‵ (partAt Words fullShare (zeros mostFigureWords) l₄ 0))
+              (local-in 𝓤 H A W Words (tyArray (tyInt w32) mostFigureWords) refl (zeros mostFigureWords) l₄ (zeroVal w32 mostFigureWords)) $
+              use1 W (‵ (arr-parts (shares u32) mostFigureWords .part fullShare (zeros mostFigureWords) l₄ 0))
+              (array-apart 𝓤 H A W u32 fullShare tt mostFigureWords (zeros mostFigureWords) l₄ 0) $ fsplit ! $ drop ! $
               use1 W (‵ (elements (mem u32) (zeros mostFigureWords) l₄ 0)) (whole-in 𝓤 H A W u32 (zeros mostFigureWords) l₄ 0) $ lft-new ! tt (λ ν₂. move ! (1 ∷ []) $
               use1 W (later (some (λ (γ : GName). ‵ (MutSlice (named 2) (ν₂ ∷ []) u32 .own (lent l₄ (zeros mostFigureWords) γ) (val (lent l₄ (zeros mostFigureWords) γ) ∷ [])) ⊛ ‵
               (flent (ν₂ ∷ []) (Held u32 mostFigureWords l₄ 0 γ))))) (lends-slice 𝓤 H A W u32 (named 2) (ν₂ ∷ []) (zeros mostFigureWords) l₄ 0 (has-room (zeros mostFigureWords) refl)) $
@@ -368,7 +372,8 @@ module _ (S : RattleType) (g : Buffers) (xs : List Extra) (Refuse : List ℕ →
               use1 W (‵ (fat fullShare (tyInt w64) l₃ 0 (vint w64 n)) ⊛ ‵ (usize .own n (vint w64 n ∷ [])))
               (local-out 𝓤 H A W usize (tyInt w64) refl n l₃ (λ k. vint w64 k) (uint-tells w64)) $
               split ! $ move ! (1 ∷ []) $ peeks ! usize (Is usize) (shows 𝓤 H A usize) n (vint w64 n ∷ []) (λ is-n. drop ! $
-              move ! (1 ∷ []) $ lft-end ! tt $ move ! (0 ∷ 11 ∷ 6 ∷ []) $ use3 W (later (‵ (Arr (mem u32) mostFigureWords .lies ws l₄ 0))) (slice-back 𝓤 H A W u32 (ν₂ ∷ []) γ₂ ws mostFigureWords l₄ 0) $
+              move ! (1 ∷ []) $ lft-end ! tt $ move ! (0 ∷ 11 ∷ 6 ∷ []) $ use3 W (later (‵ (Arr (mem u32) mostFigureWords .lies ws l₄ 0)))
+              (slice-back 𝓤 H A W u32 (ν₂ ∷ []) γ₂ ws mostFigureWords l₄ 0) $
               await ! tt $ fsplit ! $ drop ! $ use1 W (‵ (row u32 fullShare ws l₄ 0)) (whole-out 𝓤 H A W u32 ws l₄ 0) $
               move ! (2 ∷ []) $ lft-end ! tt $ move ! (0 ∷ 9 ∷ 6 ∷ []) $ use3 W (later (‵ (partAt SetWords fullShare es l₅ 0))) (ref-back 𝓤 H A W SetWords (ν₃ ∷ []) γ₃ es l₅ 0) $ await ! tt $
               -- `fill`, the words and the sets being shared for two lifetimes of the call, the words as a slice
