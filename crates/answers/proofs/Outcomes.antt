@@ -9,7 +9,7 @@ use Rattle.board.specs.Layout.{tasks, scratchWords}
 use Rattle.board.specs.Sound.{Sound}
 use Rattle.refusals.specs.declared.Verdict.{Verdict}
 use Rattle.refusals.specs.declared.Verdict.the-variants.{Passed, Refused}
-use Rattle.scratch.specs.Scratch.{Room}
+use Rattle.scratch.specs.Scratch.{ScratchRoom}
 use Rattle.answers.specs.declared.Outcome.the-variants.{Value, Refused as Outcome·Refused}
 use Rattle.answers.specs.Answers.{unlessRefused}
 use Rattle.answers.specs.Records.{recordsOf}
@@ -39,5 +39,5 @@ records-room b (Refused number place) e fits = omega arith
 
 -- ---- a scratch of so many words has room for the tasks
 
-pub room-for : {b : List ℕ} {n : ℕ} (w : List ℕ) → Sound b → n ≡ tasks b → scratchWords (tasks b) ≤ length w → Room b n w
+pub room-for : {b : List ℕ} {n : ℕ} (w : List ℕ) → Sound b → n ≡ tasks b → scratchWords (tasks b) ≤ length w → ScratchRoom b n w
 room-for w s e room = record { sound = s; tasks = e; words = rw e room }

@@ -18,12 +18,12 @@ use Rattle.answers.specs.Answers.{system, unlessRefused, weighAnswer, se
 
 -- systems alike, and steps that lead to the same times: the same answer, and the same times left
 module _ {S S' : System} (alike : Alike S S') {step step' : List ℕ → List ℕ} (same : (R : List ℕ) → step R ≡ step' R) where
-  pub settledAnswer-alike : (limit : ℕ) → settledAnswer S step limit ≡ settledAnswer S' step' limit
+  settledAnswer-alike : (limit : ℕ) → settledAnswer S step limit ≡ settledAnswer S' step' limit
   unfolding settledAnswer
   settledAnswer-alike limit =
       rw (passesBy-alike alike same, settledBy-alike alike same, firstLate-alike alike (settledBy S' step'), alike .count)
 
-  pub timesLeft-alike : (r : Answer) (old : List ℕ) → timesLeft S step r old ≡ timesLeft S' step' r old
+  timesLeft-alike : (r : Answer) (old : List ℕ) → timesLeft S step r old ≡ timesLeft S' step' r old
   unfolding timesLeft
   timesLeft-alike (Times passes) old = rw (settledBy-alike alike same, alike .count)
   timesLeft-alike (Late task passes) old = refl

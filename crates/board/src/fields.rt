@@ -214,6 +214,14 @@ pub fn jitter(board: &[u32], k: usize) -> u32
     task_word(board, k, 4)
 }
 
+// The largest time of task k that is not late: D − J.
+pub fn bound(board: &[u32], k: usize) -> u32
+    requires { ⌜ (Sound (now board)) × (k < at.tasks (now board)) ⌝ }
+    ensures { λ r. ⌜ (r ≡ at.bound (now (board .entry)) k) × (r ≤ at.longest) ⌝ }
+{
+    deadline(board, k) - jitter(board, k)
+}
+
 // The length of trace t.
 pub fn trace_length(board: &[u32], t: usize) -> u32
     requires { ⌜ (Sound (now board)) × (t < at.traces (now board)) ⌝ }

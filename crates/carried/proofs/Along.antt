@@ -1,4 +1,4 @@
--- A(n, y) added up along the chain of core y.
+-- A(n, y) added up along the links of core y.
 -- Assumes nothing.
 use Prim.Native.Nat.{ℕ, _+_, _-_, _≤_, _<_}
 use mathlib.Core.List.{List}
@@ -10,9 +10,9 @@ use Rattle.folds.proofs.Last.{Traversed, lastTo-low, traversed-start, traversed
 use Rattle.board.specs.Layout.{tasks, core}
 use Rattle.sums.specs.Sums.{carryIn, coreAccesses}
 use Rattle.sums.specs.Limits.{mostCarryIn, mostAccesses}
-use Rattle.sums.specs.Chains.{isOn}
+use Rattle.sums.specs.Links.{isOn}
 use Rattle.sums.specs.Inputs.{CoresInput}
-use Rattle.sums.proofs.Chains.{chain-up}
+use Rattle.sums.proofs.Links.{link-up}
 use Rattle.carried.proofs.Bounds.{carry-bound, core-bound}
 
 -- `sum` has what the tasks of core y from number k + 1 on add, and task number k is the next; 0 where there is none
@@ -49,7 +49,7 @@ module _ (b links row R : List ℕ) (t j y : ℕ) (h : CoresInput b links row R 
 
       module _ {up : ℕ} (above : up ≡ lastTo (isOn b (core b (k - 1))) (k - 1)) where
         upwards : up ≡ lastTo (isOn b y) (k - 1)
-        upwards = chain-up b y (k - 1) (so-far .passes (k - 1) (omega (arith, some))) above
+        upwards = link-up b y (k - 1) (so-far .passes (k - 1) (omega (arith, some))) above
 
         pub along-less : up < k
         along-less = omega (arith, upwards, lastTo-low (isOn b y) (k - 1), some)

@@ -1,8 +1,8 @@
-// The accesses of the tasks of whole cores, each along its chain; j is task n.
+// The accesses of the tasks of whole cores, each along its links; j is task n.
 use crate::NO_CAP;
 use board::fields::cores;
-use chains::above;
-use chains::last_on;
+use linked_tasks::above;
+use linked_tasks::last_on;
 use terms::carry::carry_in;
 ghost use mathlib.Core.Path.{_≡_};
 ghost use Prim.Native.Nat.{_+_, _-_, _*_, _≤_};

@@ -18,7 +18,7 @@ use Rattle.figures.specs.Figures.{taskPD, taskMD, evicting, figureOf}
 use Rattle.figures.specs.Overhead.{evictedBy, reloads, γ}
 use Rattle.sums.specs.Sums.{addedJitter, memoryDemand, ownAccesses, carryIn, coreAccesses, lowerAccesses, interference, busAccesses, refreshes, higherWork, taskSum}
 use Rattle.sums.specs.Cases.{K1, K2, K3, K4, K5, K6, K7, K8, K8-putOff}
-use Rattle.passes.specs.Passes.{pass, after, unchanged, changes, passesBy, settledBy, firstLate}
+use Rattle.passes.specs.Passes.{pass, timesBy, unchanged, changes, passesBy, settledBy, firstLate}
 use Rattle.passes.specs.Visits.{inTurn}
 use Rattle.checks.specs.CallRefusals.{figuresRefusal, overheadRefusal, analyseRefusal, inOrderRefusal}
 use Rattle.answers.specs.Answers.{figuresAnswer, overheadAnswer, settledAnswer, analyseAnswer, inOrderAnswer, timesLeft, timesAfter}
@@ -306,7 +306,7 @@ pub examples :
     × (figuresAnswer (split 257 sameSets) 1 ≡ Outcome·Refused 2 14)
     × (figuresAnswer (set sameSets 14 1) 1 ≡ Outcome·Refused 2 14)
     × (figuresAnswer (set (split 4 sameSets) 15 3) 1 ≡ Outcome·Refused 2 15)
-unfolding ceilDiv sumTo maxTo countTo anyTo firstFrom tabulate fillTo sameList wordOf wordsOf firstTrace firstInstruction headerRanges headerOk taskRanges taskOk workOk refuseUnless firstBad refuseFirst refusalOf among without countIn someIn recent hits missCount nextHits usefulIn placeOf traceOf loads tracePD busLoads traceMD evicts useful usefulAt mostUseful taskPD taskMD evicting figureOf evictedBy reloads γ addedJitter memoryDemand ownAccesses carryIn coreAccesses lowerAccesses interference busAccesses refreshes higherWork taskSum pass inTurn after unchanged changes passesBy settledBy firstLate figuresRefusal overheadRefusal analyseRefusal inOrderRefusal figuresAnswer overheadAnswer settledAnswer analyseAnswer inOrderAnswer timesLeft wordsIn inputRefusal digitsOf decimal line joinTo answerPage boardPage pageOf
+unfolding ceilDiv sumTo maxTo countTo anyTo firstFrom tabulate fillTo sameList wordOf wordsOf firstTrace firstInstruction headerRanges headerOk taskRanges taskOk workOk refuseUnless firstBad refuseFirst refusalOf among without countIn someIn recent hits missCount nextHits usefulIn placeOf traceOf loads tracePD busLoads traceMD evicts useful usefulAt mostUseful taskPD taskMD evicting figureOf evictedBy reloads γ addedJitter memoryDemand ownAccesses carryIn coreAccesses lowerAccesses interference busAccesses refreshes higherWork taskSum pass inTurn timesBy unchanged changes passesBy settledBy firstLate figuresRefusal overheadRefusal analyseRefusal inOrderRefusal figuresAnswer overheadAnswer settledAnswer analyseAnswer inOrderAnswer timesLeft wordsIn inputRefusal digitsOf decimal line joinTo answerPage boardPage pageOf
 examples = (
   (refl, refl),
   refl,

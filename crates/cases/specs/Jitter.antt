@@ -14,7 +14,7 @@ use Rattle.figures.specs.Overhead.{evictedBy, reloads, γ}
 use Rattle.sums.specs.Sums.{addedJitter, memoryDemand, ownAccesses, carryIn, coreAccesses, lowerAccesses, interference, busAccesses, refreshes, higherWork, taskSum}
 use Rattle.sums.specs.SixParts.{sixParts, total, reason}
 use Rattle.sums.specs.Cases.{K7, K1-jitter, K1-oneCore}
-use Rattle.passes.specs.Passes.{pass, after, unchanged, changes, passesBy, settledBy, firstLate}
+use Rattle.passes.specs.Passes.{pass, timesBy, unchanged, changes, passesBy, settledBy, firstLate}
 use Rattle.interference.specs.Parts.{sumParts}
 use Rattle.checks.specs.CallRefusals.{weighRefusal, analyseRefusal, makeUpRefusal}
 use Rattle.answers.specs.Answers.{weighAnswer, settledAnswer, analyseAnswer, timesLeft, timesAfter}
@@ -37,7 +37,7 @@ Settles b time1 time2 passes = (answer b ≡ Times passes) × (timesAfter b (ans
 -- the six numbers of a task, and the reason
 abbrev MadeOf : List ℕ → ℕ → ℕ → ℕ → ℕ → ℕ → ℕ → ℕ → ℕ → Type 0
 MadeOf b task work higher own others blocking refresh k =
-    makeUpAnswer b 2 12 2 task ≡ Parts (record { work = work; higher = higher; own = own; others = others; blocking = blocking; refresh = refresh }) k
+    makeUpAnswer b 2 12 2 task ≡ Parts (record { «own_work» = work; «higher_work» = higher; «core_accesses» = own; «other_accesses» = others; «blocking_access» = blocking; refreshes = refresh }) k
 
 -- "sum 35", "deadline 100", "largest-time 34", "reason 3 core-accesses", each ended by byte 10
 abbrev lateLines : List ℕ
@@ -78,5 +78,5 @@ pub jitter-examples :
     × MadeOf (K1-jitter 100 0) 1 5 0 15 10 5 0 3
     × MadeOf (K1-oneCore 62 2) 2 4 10 40 0 5 0 3
     × (lastLines (K1-jitter 66 0) 0 (5 ∷ 0 ∷ 15 ∷ 10 ∷ 5 ∷ 0 ∷ []) 3 ≡ lateLines)
-unfolding ceilDiv sumTo maxTo countTo anyTo firstFrom firstLargest tabulate fillTo sameList firstTrace firstInstruction headerRanges headerOk taskRanges taskOk workOk refuseUnless firstBad refuseFirst refusalOf traceOf loads tracePD busLoads traceMD evicts useful usefulAt mostUseful taskPD taskMD evicting evictedBy reloads γ addedJitter memoryDemand ownAccesses carryIn coreAccesses lowerAccesses interference busAccesses refreshes higherWork taskSum sixParts reason pass after unchanged changes passesBy settledBy firstLate sumParts weighRefusal analyseRefusal makeUpRefusal weighAnswer settledAnswer analyseAnswer timesLeft settledMadeUp makeUpAnswer total digitsOf decimal line partName
+unfolding ceilDiv sumTo maxTo countTo anyTo firstFrom firstLargest tabulate fillTo sameList firstTrace firstInstruction headerRanges headerOk taskRanges taskOk workOk refuseUnless firstBad refuseFirst refusalOf traceOf loads tracePD busLoads traceMD evicts useful usefulAt mostUseful taskPD taskMD evicting evictedBy reloads γ addedJitter memoryDemand ownAccesses carryIn coreAccesses lowerAccesses interference busAccesses refreshes higherWork taskSum sixParts reason pass timesBy unchanged changes passesBy settledBy firstLate sumParts weighRefusal analyseRefusal makeUpRefusal weighAnswer settledAnswer analyseAnswer timesLeft settledMadeUp makeUpAnswer total digitsOf decimal line partName
 jitter-examples = ((refl, refl), (refl, refl), (refl, refl), refl, refl, refl, refl, refl, refl, (refl, refl), (refl, refl), (refl, refl), refl, (refl, refl), refl, refl, refl, refl, refl, refl, refl, refl)

@@ -14,7 +14,7 @@ use Rattle.figures.specs.Overhead.{evictedBy, reloads, γ}
 use Rattle.sums.specs.Sums.{addedJitter, memoryDemand, ownAccesses, carryIn, coreAccesses, lowerAccesses, interference, busAccesses, refreshes, higherWork, taskSum}
 use Rattle.sums.specs.SixParts.{sixParts, total, reason}
 use Rattle.sums.specs.Cases.{K1, K4, K5, K6, K8-putOff}
-use Rattle.passes.specs.Passes.{pass, after, unchanged, changes, passesBy, settledBy}
+use Rattle.passes.specs.Passes.{pass, timesBy, unchanged, changes, passesBy, settledBy}
 use Rattle.interference.specs.Parts.{sumParts}
 use Rattle.checks.specs.CallRefusals.{makeUpRefusal}
 use Rattle.answers.specs.MakeUp.{settledMadeUp, makeUpAnswer}
@@ -33,7 +33,7 @@ madeUp b task = makeUpAnswer b 2 12 2 task
 -- the six numbers and the reason
 abbrev six : ℕ → ℕ → ℕ → ℕ → ℕ → ℕ → ℕ → MadeUp
 six work higher own others blocking refresh k =
-    Parts (record { work = work; higher = higher; own = own; others = others; blocking = blocking; refresh = refresh }) k
+    Parts (record { «own_work» = work; «higher_work» = higher; «core_accesses» = own; «other_accesses» = others; «blocking_access» = blocking; refreshes = refresh }) k
 
 -- K1 with both tasks on core 1 and 33 cycles of work in task 1
 abbrev oneCore : List ℕ
@@ -77,5 +77,5 @@ pub make-up-examples :
     × (makeUpAnswer K1 2 12 1 2 ≡ Refused 13 1)
     × (makeUpAnswer (set K1 12 0) 1 11 1 3 ≡ Refused 2 12)
     × (makeUpPage (50 ∷ []) (bytesOf K1) ≡ K1-page)
-unfolding ceilDiv sumTo maxTo countTo anyTo firstFrom firstLargest tabulate sameList firstTrace firstInstruction headerRanges headerOk taskRanges taskOk workOk refuseUnless firstBad refuseFirst refusalOf traceOf loads tracePD busLoads traceMD evicts useful usefulAt mostUseful taskPD taskMD evicting evictedBy reloads γ addedJitter memoryDemand ownAccesses carryIn coreAccesses lowerAccesses interference busAccesses refreshes higherWork taskSum sixParts reason pass after unchanged changes passesBy settledBy sumParts makeUpRefusal settledMadeUp makeUpAnswer wordsIn inputRefusal valueTo numberIn total digitsOf decimal line joinTo partName madeUpPage boardMadeUp makeUpPage
+unfolding ceilDiv sumTo maxTo countTo anyTo firstFrom firstLargest tabulate sameList firstTrace firstInstruction headerRanges headerOk taskRanges taskOk workOk refuseUnless firstBad refuseFirst refusalOf traceOf loads tracePD busLoads traceMD evicts useful usefulAt mostUseful taskPD taskMD evicting evictedBy reloads γ addedJitter memoryDemand ownAccesses carryIn coreAccesses lowerAccesses interference busAccesses refreshes higherWork taskSum sixParts reason pass timesBy unchanged changes passesBy settledBy sumParts makeUpRefusal settledMadeUp makeUpAnswer wordsIn inputRefusal valueTo numberIn total digitsOf decimal line joinTo partName madeUpPage boardMadeUp makeUpPage
 make-up-examples = (refl, refl, refl, refl, refl, refl, refl, refl, refl, refl, refl, refl, refl, refl, refl, refl, refl)

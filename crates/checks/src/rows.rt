@@ -93,7 +93,7 @@ fn first_over(board: &[u32], times: &[u32], n: usize) -> usize
 {
     let mut k = 0;
     while k < n {
-        let last = terms::rows::bound(board, k);
+        let last = board::fields::bound(board, k);
         if last + 1 < times[k] {
             return k;
         }

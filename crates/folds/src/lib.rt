@@ -39,7 +39,7 @@ pub fn smaller(x: u64, y: u64) -> u64
 }
 
 // x - y, and 0 where y is larger.
-pub fn less(x: u64, y: u64) -> u64
+pub fn saturating_sub(x: u64, y: u64) -> u64
     ensures { λ r. ⌜ r ≡ x - y ⌝ }
 {
     if x < y { 0 } else { x - y }

@@ -1,13 +1,17 @@
 -- The interference on each bus, from the accesses of the tasks and the cores off a core: t, x and j are the time and the core of task i, and task n, as code
 -- computes them.
 -- Assumes nothing.
-use Prim.Native.Nat.{ℕ, _+_, _-_, _*_, _≤_, _<_, min}
+use Prim.Native.Nat.{ℕ, zero, suc, _+_, _-_, _*_, _≤_, _<_, min}
+use mathlib.Core.Bool.{Bool, false}
 use mathlib.Core.List.{List}
-use mathlib.Core.Path.{_≡_, _∙_}
+use mathlib.Core.Path.{_≡_, refl, _∙_}
+use native.Mathlib.Nat.{zero-mul}
 use native.Mathlib.Omega.{arith}
 use lib.ListN.{getD}
+use Rattle.folds.specs.Folds.{onlyIf}
 use Rattle.folds.specs.Reaches.{Reaches}
-use Rattle.board.specs.Layout.{tasks, cores, slots, core}
+use Rattle.folds.proofs.Folds.{sumTo-zero}
+use Rattle.board.specs.Layout.{tasks, cores, slotsEach, slots, core}
 use Rattle.board.specs.Sound.{Sound}
 use Rattle.sums.specs.Sums.{lowest, isOther, isBefore, isAfter, overCores, ownAccesses, coreAccesses, lowerAccesses, interference}
 use Rattle.carried.specs.Terms.{carriedOff, coresFrom}
@@ -17,7 +21,7 @@ use Rattle.carried.proofs.ByCore.{coresBefore-from, coresAfter-from}
 
 -- the last of the buses
 pub is-four : (n : ℕ) → n ≤ 4 → (n ≡ 0 → ⊥) → (n ≡ 1 → ⊥) → (n ≡ 2 → ⊥) → (n ≡ 3 → ⊥) → n ≡ 4
-is-four n h zero one two three = omega arith
+is-four n h none one two three = omega arith
 
 module _ (b R : List ℕ) (i : ℕ) {t x j : ℕ} (s : Sound b) (task : i < tasks b) (now : t ≡ getD R i 0) (here : x ≡ core b i) (last : j ≡ lowest b) where
   -- A(n, y)
@@ -54,3 +58,28 @@ module _ (b R : List ℕ) (i : ℕ) {t x j : ℕ} (s : Sound b) (task : i < task
       → r ≡ interference b R i 3
   unfolding interference
   round-robin-is r own = r ∙ rw (now, here, last, own)
+
+-- one core: none is off it
+module _ (b R : List ℕ) (i : ℕ) (s : Sound b) (task : i < tasks b) (one : cores b ≡ 1) where
+  here : core b i ≡ 1
+  here = omega (arith, s .core i task)
+
+  none : (test : ℕ → Bool) (f : ℕ → ℕ) → test 1 ≡ false → overCores b test f ≡ 0
+  none test f out =
+      sumTo-zero (λ y. onlyIf (test (y + 1)) (f (y + 1))) (cores b) (λ y h. let first : y ≡ 0 = omega arith in rw (first, out))
+
+  other : isOther (core b i) 1 ≡ false
+  other = rw here refl
+
+  -- A(n, y)
+  abbrev lowest-of : ℕ → ℕ
+  lowest-of y = coreAccesses b R (getD R i 0) (lowest b) y
+
+  pub interference-alone : (rule : ℕ) → interference b R i rule ≡ 0
+  unfolding interference
+  interference-alone zero =
+      omega (arith, none (isOther (core b i)) (λ y. coreAccesses b R (getD R i 0) i y) other, none (isOther (core b i)) (λ y. lowerAccesses b R (getD R i 0) i y) other)
+  interference-alone (suc zero) = omega (arith, none (isBefore (core b i)) lowest-of (rw here refl), none (isAfter (core b i)) lowest-of (rw here refl))
+  interference-alone (suc (suc zero)) = none (isOther (core b i)) lowest-of other
+  interference-alone (suc (suc (suc zero))) = none (isOther (core b i)) (λ y. min (lowest-of y) (slots b y * ownAccesses b R i)) other
+  interference-alone (suc (suc (suc (suc m)))) = rw (one, zero-mul (slotsEach b), zero-mul (ownAccesses b R i))

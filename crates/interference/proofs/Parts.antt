@@ -13,19 +13,19 @@ use Rattle.interference.specs.declared.SumParts.{SumParts}
 use Rattle.interference.specs.Parts.{sumParts, listed}
 
 -- the numbers of a struct added up
-pub total-listed : (p : SumParts) → p .work + p .higher + p .own + p .others + p .blocking + p .refresh ≡ total (listed p)
+pub total-listed : (p : SumParts) → p .«own_work» + p .«higher_work» + p .«core_accesses» + p .«other_accesses» + p .«blocking_access» + p .refreshes ≡ total (listed p)
 unfolding total sumTo
 total-listed p = omega arith
 
 -- part by part
-pub parts-are : {p q : SumParts} → p .work ≡ q .work → p .higher ≡ q .higher → p .own ≡ q .own → p .others ≡ q .others → p .blocking ≡ q .blocking
-    → p .refresh ≡ q .refresh → p ≡ q
+pub parts-are : {p q : SumParts} → p .«own_work» ≡ q .«own_work» → p .«higher_work» ≡ q .«higher_work» → p .«core_accesses» ≡ q .«core_accesses» → p .«other_accesses» ≡ q .«other_accesses» → p .«blocking_access» ≡ q .«blocking_access»
+    → p .refreshes ≡ q .refreshes → p ≡ q
 parts-are work higher own others blocking refresh =
-    λ k. record { work = work k; higher = higher k; own = own k; others = others k; blocking = blocking k; refresh = refresh k }
+    λ k. record { «own_work» = work k; «higher_work» = higher k; «core_accesses» = own k; «other_accesses» = others k; «blocking_access» = blocking k; refreshes = refresh k }
 
 module _ (b R : List ℕ) (i : ℕ) where
-  pub sumParts-is : {p : SumParts} → p .work ≡ ownWork b R i → p .higher ≡ higherWork b R i → p .own ≡ ownAccessPart b R i
-      → p .others ≡ interference b R i (bus b) * accessCycles b → p .blocking ≡ blockingPart b R i → p .refresh ≡ refreshPart b R i → p ≡ sumParts b R i
+  pub sumParts-is : {p : SumParts} → p .«own_work» ≡ ownWork b R i → p .«higher_work» ≡ higherWork b R i → p .«core_accesses» ≡ ownAccessPart b R i
+      → p .«other_accesses» ≡ interference b R i (bus b) * accessCycles b → p .«blocking_access» ≡ blockingPart b R i → p .refreshes ≡ refreshPart b R i → p ≡ sumParts b R i
   unfolding sumParts
   sumParts-is work higher own others blocking refresh = parts-are work higher own (others ∙ interferencePart-is b R i) blocking refresh
 

@@ -9,14 +9,14 @@ use Rattle.interference.specs.declared.SumParts.{SumParts}
 -- task i at the times R
 unfoldable pub sumParts : List ℕ → List ℕ → ℕ → SumParts
 sumParts b R i = record {
-  work = ownWork b R i;
-  higher = higherWork b R i;
-  own = ownAccessPart b R i;
-  others = interferencePart b R i;
-  blocking = blockingPart b R i;
-  refresh = refreshPart b R i;
+  «own_work» = ownWork b R i;
+  «higher_work» = higherWork b R i;
+  «core_accesses» = ownAccessPart b R i;
+  «other_accesses» = interferencePart b R i;
+  «blocking_access» = blockingPart b R i;
+  refreshes = refreshPart b R i;
 }
 
 -- the six numbers of such a struct, in document 02's order
 abbrev pub listed : SumParts → List ℕ
-listed p = p .work ∷ p .higher ∷ p .own ∷ p .others ∷ p .blocking ∷ p .refresh ∷ []
+listed p = p .«own_work» ∷ p .«higher_work» ∷ p .«core_accesses» ∷ p .«other_accesses» ∷ p .«blocking_access» ∷ p .refreshes ∷ []

@@ -19,7 +19,7 @@ ghost use Rattle.board.specs.Layout as at;
 ghost use Rattle.board.specs.Sound.{Sound};
 ghost use Rattle.sums.specs.Sums as spec;
 ghost use Rattle.sums.specs.Limits.{mostOwnAccesses};
-ghost use Rattle.sums.specs.Chains.{Linked};
+ghost use Rattle.sums.specs.Links.{Linked};
 ghost use Rattle.sums.specs.Inputs.{RowInput};
 
 // Task n.
@@ -119,8 +119,8 @@ fn tdma(board: &[u32], times: &[u32], i: usize, s: u64) -> u64
     (wide(cores(board)) - 1) * v * s
 }
 
-// The interference of task i, with s the accesses of its own core.
-pub fn interference(
+// The interference of task i by its bus, with s the accesses of its own core.
+fn by_bus(
     board: &[u32],
     links: &[u32],
     own: &[u32],
@@ -141,5 +141,27 @@ pub fn interference(
         2 => fifo(board, links, all, times, i),
         3 => round_robin(board, links, all, times, i, s),
         _ => tdma(board, times, i, s),
+    }
+}
+
+// The same, with no look at the bus where no core but its own is there.
+pub fn interference(
+    board: &[u32],
+    links: &[u32],
+    own: &[u32],
+    all: &[u32],
+    times: &[u32],
+    i: usize,
+    s: u64,
+) -> u64
+    requires { ⌜ RowInput (now board) (now own) (now times) i × RowInput (now board) (now all) (now times) (spec.lowest (now board))
+        × Linked (now board) (now links) ⌝ }
+    requires { ⌜ s ≡ spec.ownAccesses (now board) (now times) i ⌝ }
+    ensures { λ r. ⌜ r ≡ spec.interference (now (board .entry)) (now (times .entry)) i (at.bus (now (board .entry))) ⌝ }
+{
+    if cores(board) == 1 {
+        0
+    } else {
+        by_bus(board, links, own, all, times, i, s)
     }
 }

@@ -18,15 +18,15 @@ mod bus;
 // The parts of a sum, in cycles: PD, the PD of higher tasks, the accesses of its own core, of other cores, and the one under way,
 // and the refreshes.
 pub struct SumParts {
-    pub work: u64,
-    pub higher: u64,
-    pub own: u64,
-    pub others: u64,
-    pub blocking: u64,
-    pub refresh: u64,
+    pub own_work: u64,
+    pub higher_work: u64,
+    pub core_accesses: u64,
+    pub other_accesses: u64,
+    pub blocking_access: u64,
+    pub refreshes: u64,
 }
 
-// The parts of Sum_i at these times, from the chains of the cores, the tasks' PD and the rows D'(i, _) and D'(n, _).
+// The parts of Sum_i at these times, from the links of the cores, the tasks' PD and the rows D'(i, _) and D'(n, _).
 pub fn task_parts(
     board: &[u32],
     links: &[u32],
@@ -46,12 +46,12 @@ pub fn task_parts(
     let d = wide(access_cycles(board));
     let dr = wide(refresh_cycles(board));
     SumParts {
-        work: work(board, pd, i),
-        higher: core.work,
-        own: s * d,
-        others: others * d,
-        blocking: d,
-        refresh: refreshes(board, times, i, count) * dr,
+        own_work: work(board, pd, i),
+        higher_work: core.work,
+        core_accesses: s * d,
+        other_accesses: others * d,
+        blocking_access: d,
+        refreshes: refreshes(board, times, i, count) * dr,
     }
 }
 
@@ -60,12 +60,12 @@ pub fn six(parts: SumParts) -> [u64; 6]
     ensures { λ r. ⌜ r ≡ listed parts ⌝ }
 {
     [
-        parts.work,
-        parts.higher,
-        parts.own,
-        parts.others,
-        parts.blocking,
-        parts.refresh,
+        parts.own_work,
+        parts.higher_work,
+        parts.core_accesses,
+        parts.other_accesses,
+        parts.blocking_access,
+        parts.refreshes,
     ]
 }
 
@@ -74,12 +74,12 @@ pub fn parts_from(numbers: [u64; 6]) -> SumParts
     ensures { λ r. ⌜ ((p : SumParts) → numbers ≡ listed p → r ≡ p) ⌝ }
 {
     SumParts {
-        work: numbers[0],
-        higher: numbers[1],
-        own: numbers[2],
-        others: numbers[3],
-        blocking: numbers[4],
-        refresh: numbers[5],
+        own_work: numbers[0],
+        higher_work: numbers[1],
+        core_accesses: numbers[2],
+        other_accesses: numbers[3],
+        blocking_access: numbers[4],
+        refreshes: numbers[5],
     }
 }
 
@@ -88,5 +88,10 @@ pub fn add_parts(parts: SumParts) -> u64
     requires { ⌜ total (listed parts) < 2 ^ 64 ⌝ }
     ensures { λ r. ⌜ r ≡ total (listed parts) ⌝ }
 {
-    parts.work + parts.higher + parts.own + parts.others + parts.blocking + parts.refresh
+    parts.own_work
+        + parts.higher_work
+        + parts.core_accesses
+        + parts.other_accesses
+        + parts.blocking_access
+        + parts.refreshes
 }

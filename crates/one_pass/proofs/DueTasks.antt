@@ -17,7 +17,7 @@ use Rattle.folds.proofs.Numbers.{below-suc, le-or-lt, and-both}
 use Rattle.board.specs.Layout.{tasks, bus, core}
 use Rattle.bitset.specs.Bits.{bit, wordOf}
 use Rattle.bitset.proofs.Words.{bit-none, bit-all, bit-wordOf, wordOf-is, wordOf-cong}
-use Rattle.sums.specs.Chains.{isOn}
+use Rattle.sums.specs.Links.{isOn}
 use Rattle.sums.specs.Limits.{mostCores}
 use Rattle.sums.specs.Sums.{bound}
 use Rattle.sums.proofs.TimesRead.{taskSum-reads}

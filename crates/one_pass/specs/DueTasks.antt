@@ -9,7 +9,7 @@ use lib.Dec.{ltb}
 use lib.ListN.{length, getD, take}
 use Rattle.board.specs.Layout.{tasks, bus, core}
 use Rattle.bitset.specs.Bits.{bit, wordOf}
-use Rattle.sums.specs.Chains.{isOn}
+use Rattle.sums.specs.Links.{isOn}
 use Rattle.sums.specs.Limits.{mostCores}
 use Rattle.passes.specs.Passes.{capped}
 use Rattle.one_pass.specs.System.{system}

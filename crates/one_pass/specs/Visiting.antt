@@ -6,14 +6,14 @@ use mathlib.Core.List.{List}
 use mathlib.Core.Path.{_≡_}
 use lib.ListN.{length, getD, take}
 use Rattle.board.specs.Layout.{tasks}
-use Rattle.sums.specs.Chains.{Linked}
+use Rattle.sums.specs.Links.{Linked}
 use Rattle.passes.specs.Passes.{Below, pass}
 use Rattle.scratch.specs.Scratch.{Prepared}
 use Rattle.one_pass.specs.System.{system}
 use Rattle.one_pass.specs.Startable.{Startable}
 use Rattle.one_pass.specs.DueTasks.{OnCores, Quiet}
 
--- a prepared scratch with times, in its first n words, that a pass does not lower; the chains and the tasks of the cores; and the tasks that are due
+-- a prepared scratch with times, in its first n words, that a pass does not lower; the links and the tasks of the cores; and the tasks that are due
 pub record Visitable (b : List ℕ) (n : ℕ) (links on : List ℕ) (due : ℕ) (w : List ℕ) : Type 0 where
   pub startable : Startable b n w
   pub prepared : Prepared b n w

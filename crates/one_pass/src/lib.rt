@@ -11,7 +11,7 @@ ghost use Rattle.folds.specs.Folds.{fillTo};
 ghost use Rattle.passes.specs.Passes.{capped};
 ghost use Rattle.folds.specs.Stored.{Stored};
 ghost use Rattle.board.specs.Layout.{tasks};
-ghost use Rattle.sums.specs.Chains.{Linked};
+ghost use Rattle.sums.specs.Links.{Linked};
 ghost use Rattle.scratch.specs.Scratch.{Passable, Prepared};
 ghost use Rattle.one_pass.specs.System.{system};
 ghost use Rattle.one_pass.specs.DueTasks.{OnCores, Quiet, Unchanged};
@@ -23,7 +23,7 @@ pub fn next_time(board: &[u32], n: usize, links: &[u32], scratch: &[u32], i: usi
     ensures { λ r. ⌜ r ≡ capped (system (now (board .entry))) (take n (now (scratch .entry))) i ⌝ }
 {
     let sum = scratch::sum_along(board, n, links, scratch, &scratch[..n], i);
-    let cap = terms::rows::bound(board, i) + 1;
+    let cap = board::fields::bound(board, i) + 1;
     let time = folds::smaller(sum, folds::wide(cap));
     time as u32
 }

@@ -94,7 +94,7 @@ fn last_lines(
         out,
         second,
         b"largest-time",
-        wide(terms::rows::bound(board, task - 1)),
+        wide(board::fields::bound(board, task - 1)),
     );
     reason_line(out, next, reason)
 }

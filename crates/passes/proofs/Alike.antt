@@ -12,7 +12,7 @@ use Rattle.folds.specs.Folds.{tabulate, sumTo, sameList, firstFrom}
 use Rattle.folds.proofs.Folds.{sumTo-cong}
 use Rattle.folds.proofs.Lists.{tabulate-cong}
 use Rattle.folds.proofs.Searches.{firstFrom-cong}
-use Rattle.passes.specs.Passes.{System, capped, pass, ceiling, after, unchanged, changes, passesBy, settledBy, passesNeeded, settled, isLate, firstLate, Alike}
+use Rattle.passes.specs.Passes.{System, capped, pass, ceiling, timesBy, unchanged, changes, passesBy, settledBy, settled, isLate, firstLate, Alike}
 use Rattle.passes.specs.Visits.{inTurn, inOrder, Permutation}
 use Rattle.passes.proofs.InOrder.{inTurn-none, inTurn-next}
 
@@ -38,15 +38,15 @@ module _ {S S' : System} (alike : Alike S S') where
   -- ---- steps that lead to the same times
 
   module _ {step step' : List ℕ → List ℕ} (same : (R : List ℕ) → step R ≡ step' R) where
-    pub after-alike : (p : ℕ) → after S step p ≡ after S' step' p
-    unfolding after
-    after-alike zero = ap (λ (n : ℕ). replicate n 0) (alike .count)
-    after-alike (suc p) = same (after S step p) ∙ ap step' (after-alike p)
+    timesBy-alike : (p : ℕ) → timesBy S step p ≡ timesBy S' step' p
+    unfolding timesBy
+    timesBy-alike zero = ap (λ (n : ℕ). replicate n 0) (alike .count)
+    timesBy-alike (suc p) = same (timesBy S step p) ∙ ap step' (timesBy-alike p)
 
     changes-alike : changes S step ≡ changes S' step'
     unfolding changes unchanged
     changes-alike =
-        firstFrom-cong (unchanged S step) (unchanged S' step') (ceiling S) 0 (λ p _ _. ap₂ sameList (after-alike (suc p)) (after-alike p))
+        firstFrom-cong (unchanged S step) (unchanged S' step') (ceiling S) 0 (λ p _ _. ap₂ sameList (timesBy-alike (suc p)) (timesBy-alike p))
         ∙ ap (λ (n : ℕ). firstFrom (unchanged S' step') n 0) ceiling-alike
 
     -- as many passes
@@ -57,12 +57,9 @@ module _ {S S' : System} (alike : Alike S S') where
     -- the same settled times
     pub settledBy-alike : settledBy S step ≡ settledBy S' step'
     unfolding settledBy
-    settledBy-alike = after-alike (passesBy S step) ∙ ap (after S' step') passesBy-alike
+    settledBy-alike = timesBy-alike (passesBy S step) ∙ ap (timesBy S' step') passesBy-alike
 
   -- ---- Analyse's passes
-
-  pub passesNeeded-alike : passesNeeded S ≡ passesNeeded S'
-  passesNeeded-alike = passesBy-alike pass-alike
 
   pub settled-alike : settled S ≡ settled S'
   settled-alike = settledBy-alike pass-alike

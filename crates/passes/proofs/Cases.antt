@@ -5,7 +5,7 @@ use mathlib.Core.Path.{_≡_, refl}
 use Prim.Native.Nat.{ℕ, zero, suc, _+_}
 use lib.ListN.{getD}
 use Rattle.folds.specs.Folds.{tabulate, sumTo, sameList, firstFrom}
-use Rattle.passes.specs.Passes.{System, pass, after, unchanged, changes, passesBy, settledBy, passesNeeded, settled, firstLate}
+use Rattle.passes.specs.Passes.{System, pass, timesBy, unchanged, changes, passesBy, settledBy, passesNeeded, settled, firstLate}
 
 abbrev takes : List ℕ → ℕ → ℕ
 takes R zero = 3
@@ -21,5 +21,5 @@ Answers bound passes times late =
 
 -- both on time, the second late, both late
 pub cases : Answers 5 3 (3 ∷ 5 ∷ []) 2 × Answers 4 3 (3 ∷ 5 ∷ []) 1 × Answers 1 2 (2 ∷ 2 ∷ []) 0
-unfolding tabulate sumTo sameList firstFrom pass after unchanged changes passesBy settledBy firstLate
+unfolding tabulate sumTo sameList firstFrom pass timesBy unchanged changes passesBy settledBy firstLate
 cases = ((refl, refl, refl), (refl, refl, refl), (refl, refl, refl))

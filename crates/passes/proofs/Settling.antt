@@ -17,31 +17,31 @@ use Rattle.folds.proofs.Numbers.{le-or-lt, below-suc}
 use Rattle.folds.proofs.Folds.{sumTo-mono, sumTo-tight}
 use Rattle.folds.proofs.Lists.{sameList-true, sameList-false}
 use Rattle.folds.proofs.Searches.{First}
-use Rattle.passes.specs.Passes.{System, capped, pass, after, unchanged, ceiling, changes, passesBy, settledBy, Below, Capped}
+use Rattle.passes.specs.Passes.{System, capped, pass, timesBy, unchanged, ceiling, changes, passesBy, settledBy, Below, Capped}
 use Rattle.passes.proofs.Steps.{changes-first}
 use Rattle.passes.proofs.Ascending.{Rising, Closed, Ascending, getD-pass, zeros-rising, zeros-below, caps, caps-closed, caps-capped, below-same, still-pass, still-closed}
 
 module _ {S : System} {step : List ℕ → List ℕ} (up : Ascending S step) where
-  pub after-rising : (p : ℕ) → Rising S (after S step p)
-  unfolding after
-  after-rising zero = zeros-rising S
-  after-rising (suc p) = up .rising (after S step p) (after-rising p)
+  pub timesBy-rising : (p : ℕ) → Rising S (timesBy S step p)
+  unfolding timesBy
+  timesBy-rising zero = zeros-rising S
+  timesBy-rising (suc p) = up .rising (timesBy S step p) (timesBy-rising p)
 
-  pub after-ascends : (p : ℕ) → Below (S .count) (after S step p) (after S step (suc p))
-  unfolding after
-  after-ascends p i h = le-trans (after-rising p .rises i h) (up .reaches (after S step p) (after-rising p) i h)
+  pub timesBy-ascends : (p : ℕ) → Below (S .count) (timesBy S step p) (timesBy S step (suc p))
+  unfolding timesBy
+  timesBy-ascends p i h = le-trans (timesBy-rising p .rises i h) (up .reaches (timesBy S step p) (timesBy-rising p) i h)
 
   -- the times stay below all times that a pass does not raise
-  pub after-stays : (C : List ℕ) → Closed S C → (p : ℕ) → Below (S .count) (after S step p) C
-  unfolding after
-  after-stays C closed zero i h = zeros-below S C i h
-  after-stays C closed (suc p) i h = up .stays (after S step p) C (after-rising p) closed (after-stays C closed p) i h
+  pub timesBy-stays : (C : List ℕ) → Closed S C → (p : ℕ) → Below (S .count) (timesBy S step p) C
+  unfolding timesBy
+  timesBy-stays C closed zero i h = zeros-below S C i h
+  timesBy-stays C closed (suc p) i h = up .stays (timesBy S step p) C (timesBy-rising p) closed (timesBy-stays C closed p) i h
 
-  pub after-capped : (p : ℕ) → Capped S (after S step p)
-  after-capped p = caps-capped S (after S step p) (after-stays (caps S) (caps-closed S) p)
+  pub timesBy-capped : (p : ℕ) → Capped S (timesBy S step p)
+  timesBy-capped p = caps-capped S (timesBy S step p) (timesBy-stays (caps S) (caps-closed S) p)
 
   total : ℕ → ℕ
-  total p = sumTo (λ i. getD (after S step p) i 0) (S .count)
+  total p = sumTo (λ i. getD (timesBy S step p) i 0) (S .count)
 
   -- a pass that changes a time raises the total
   total-grows : (p : ℕ) → unchanged S step p ≡ false → total p < total (suc p)
@@ -50,12 +50,12 @@ module _ {S : System} {step : List ℕ → List ℕ} (up : Ascending S step) whe
     where
       stands : total (suc p) ≤ total p → ⊥
       stands le =
-          sameList-false (after S step (suc p)) (after S step p) e
-          (below-same (after-rising (suc p) .size) (after-rising p .size)
+          sameList-false (timesBy S step (suc p)) (timesBy S step p) e
+          (below-same (timesBy-rising (suc p) .size) (timesBy-rising p .size)
           (λ i h.
           omega
-          (arith, sumTo-tight (λ k. getD (after S step p) k 0) (λ k. getD (after S step (suc p)) k 0) (S .count) (after-ascends p) le i h))
-          (after-ascends p))
+          (arith, sumTo-tight (λ k. getD (timesBy S step p) k 0) (λ k. getD (timesBy S step (suc p)) k 0) (S .count) (timesBy-ascends p) le i h))
+          (timesBy-ascends p))
 
   total-passes : (p : ℕ) → ((q : ℕ) → q < p → unchanged S step q ≡ false) → p ≤ total p
   total-passes zero all = zero-le
@@ -63,7 +63,7 @@ module _ {S : System} {step : List ℕ → List ℕ} (up : Ascending S step) whe
 
   total-bound : (p : ℕ) → total p ≤ ceiling S
   unfolding total
-  total-bound p = sumTo-mono (λ i. getD (after S step p) i 0) (λ i. S .bound i + 1) (S .count) (after-capped p)
+  total-bound p = sumTo-mono (λ i. getD (timesBy S step p) i 0) (λ i. S .bound i + 1) (S .count) (timesBy-capped p)
 
   -- the search for the first pass that changes nothing finds one
   pub changes-still : unchanged S step (changes S step) ≡ true
@@ -79,21 +79,21 @@ module _ {S : System} {step : List ℕ → List ℕ} (up : Ascending S step) whe
           sym e ∙ first .here (omega (arith, total-bound (suc (changes S step)), total-passes (suc (changes S step)) more))
 
   -- the pass that is needed last changes nothing
-  pub passesNeeded-still : (p : ℕ) → passesBy S step ≡ suc p → after S step (suc p) ≡ after S step p
+  pub passesNeeded-still : (p : ℕ) → passesBy S step ≡ suc p → timesBy S step (suc p) ≡ timesBy S step p
   unfolding passesBy unchanged
   passesNeeded-still p e =
       let last : changes S step ≡ p = omega arith in
-      subst (λ (q : ℕ). after S step (suc q) ≡ after S step q) last
-      (sameList-true (after S step (suc (changes S step))) (after S step (changes S step)) changes-still)
+      subst (λ (q : ℕ). timesBy S step (suc q) ≡ timesBy S step q) last
+      (sameList-true (timesBy S step (suc (changes S step))) (timesBy S step (changes S step)) changes-still)
 
   -- the settled times stand still under the step, and under a pass
   pub settled-fixed : step (settledBy S step) ≡ settledBy S step
-  unfolding settledBy passesBy after
+  unfolding settledBy passesBy timesBy
   settled-fixed = ap step (passesNeeded-still (changes S step) refl)
 
   settled-rising : Rising S (settledBy S step)
   unfolding settledBy
-  settled-rising = after-rising (passesBy S step)
+  settled-rising = timesBy-rising (passesBy S step)
 
   pub settled-length : length (settledBy S step) ≡ S .count
   settled-length = settled-rising .size
@@ -110,8 +110,8 @@ module _ {S : System} {step : List ℕ → List ℕ} (up : Ascending S step) whe
 
   pub settled-capped : Capped S (settledBy S step)
   unfolding settledBy
-  settled-capped = after-capped (passesBy S step)
+  settled-capped = timesBy-capped (passesBy S step)
 
   pub settled-stays : (C : List ℕ) → Closed S C → Below (S .count) (settledBy S step) C
   unfolding settledBy
-  settled-stays C closed = after-stays C closed (passesBy S step)
+  settled-stays C closed = timesBy-stays C closed (passesBy S step)

@@ -9,27 +9,27 @@ use native.Mathlib.Omega.{arith}
 use Rattle.folds.proofs.Numbers.{le-or-lt}
 use Rattle.folds.proofs.Lists.{sameList-refl, sameList-false, sameList-differ}
 use Rattle.folds.proofs.Searches.{First, firstFrom-first}
-use Rattle.passes.specs.Passes.{System, after, unchanged, ceiling, changes, passesBy}
+use Rattle.passes.specs.Passes.{System, timesBy, unchanged, ceiling, changes, passesBy}
 
 module _ (S : System) (step : List ℕ → List ℕ) where
-  pub after-suc : (p : ℕ) → after S step (suc p) ≡ step (after S step p)
-  unfolding after
-  after-suc p = refl
+  pub timesBy-suc : (p : ℕ) → timesBy S step (suc p) ≡ step (timesBy S step p)
+  unfolding timesBy
+  timesBy-suc p = refl
 
-  pub unchanged-true : (p : ℕ) → step (after S step p) ≡ after S step p → unchanged S step p ≡ true
-  unfolding unchanged after
-  unchanged-true p e = rw e (sameList-refl (after S step p))
+  pub unchanged-true : (p : ℕ) → step (timesBy S step p) ≡ timesBy S step p → unchanged S step p ≡ true
+  unfolding unchanged timesBy
+  unchanged-true p e = rw e (sameList-refl (timesBy S step p))
 
-  pub unchanged-false : (p : ℕ) → (step (after S step p) ≡ after S step p → ⊥) → unchanged S step p ≡ false
-  unfolding unchanged after
-  unchanged-false p moves = sameList-differ (step (after S step p)) (after S step p) moves
+  pub unchanged-false : (p : ℕ) → (step (timesBy S step p) ≡ timesBy S step p → ⊥) → unchanged S step p ≡ false
+  unfolding unchanged timesBy
+  unchanged-false p moves = sameList-differ (step (timesBy S step p)) (timesBy S step p) moves
 
   pub changes-first : First (unchanged S step) (ceiling S) 0 (changes S step)
   unfolding changes
   changes-first = firstFrom-first (unchanged S step) (ceiling S) 0
 
   -- a pass that changes nothing is not before the first
-  pub changes-least : (p : ℕ) → step (after S step p) ≡ after S step p → changes S step ≤ p
+  pub changes-least : (p : ℕ) → step (timesBy S step p) ≡ timesBy S step p → changes S step ≤ p
   changes-least p e = ⊎-elim (λ h. h) (λ l. absurd (clash (changes-first .before p zero-le l))) (le-or-lt (changes S step) p)
     where
       clash : unchanged S step p ≡ false → ⊥
@@ -41,7 +41,7 @@ module _ (S : System) (step : List ℕ → List ℕ) where
   passesNeeded-bound = omega (arith, changes-first .upto)
 
   -- every pass before the one that is needed last changes some time
-  pub passesNeeded-first : (p : ℕ) → suc p < passesBy S step → after S step (suc p) ≡ after S step p → ⊥
+  pub passesNeeded-first : (p : ℕ) → suc p < passesBy S step → timesBy S step (suc p) ≡ timesBy S step p → ⊥
   unfolding passesBy unchanged
   passesNeeded-first p l =
-      sameList-false (after S step (suc p)) (after S step p) (changes-first .before p zero-le (omega arith))
+      sameList-false (timesBy S step (suc p)) (timesBy S step p) (changes-first .before p zero-le (omega arith))

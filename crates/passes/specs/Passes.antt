@@ -33,13 +33,13 @@ ceiling S = sumTo (λ i. S .bound i + 1) (S .count)
 
 module _ (S : System) (step : List ℕ → List ℕ) where
   -- the times after p passes, which start from all zeros
-  unfoldable pub after : ℕ → List ℕ
-  after zero = replicate (S .count) 0
-  after (suc p) = step (after p)
+  unfoldable pub timesBy : ℕ → List ℕ
+  timesBy zero = replicate (S .count) 0
+  timesBy (suc p) = step (timesBy p)
 
   -- pass p + 1 changes nothing
   unfoldable pub unchanged : ℕ → Bool
-  unchanged p = sameList (after (suc p)) (after p)
+  unchanged p = sameList (timesBy (suc p)) (timesBy p)
 
   -- the number of passes before the first that changes nothing
   unfoldable pub changes : ℕ
@@ -51,7 +51,7 @@ module _ (S : System) (step : List ℕ → List ℕ) where
 
   -- the times which that pass leaves
   unfoldable pub settledBy : List ℕ
-  settledBy = after passesBy
+  settledBy = timesBy passesBy
 
 -- passes needed, and the settled times
 abbrev pub passesNeeded : System → ℕ

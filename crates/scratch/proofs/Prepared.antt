@@ -16,9 +16,9 @@ use Rattle.figures.specs.Survey.{Surveyed, Overheads}
 use Rattle.figures.proofs.Fillable.{surveyed-tasks}
 use Rattle.figures.proofs.Bounds.{taskMD-bound, γ-bound}
 use Rattle.sums.specs.Sums.{memoryDemand}
-use Rattle.sums.specs.Chains.{Chained, Linked}
+use Rattle.sums.specs.Links.{LinkedTo, Linked}
 use Rattle.sums.specs.Limits.{mostCores}
-use Rattle.sums.proofs.Chains.{chained-none}
+use Rattle.sums.proofs.Links.{linked-none}
 use Rattle.sums.specs.Inputs.{Holds, CappedTimes, SumInput}
 use Rattle.sums.specs.SixParts.{total}
 use Rattle.sums.proofs.Bounds.{taskSum-bound}
@@ -26,32 +26,32 @@ use Rattle.interference.specs.declared.SumParts.{SumParts}
 use Rattle.interference.specs.Parts.{sumParts, listed}
 use Rattle.interference.proofs.Parts.{sumParts-add}
 use Rattle.folds.specs.Stored.{Stored}
-use Rattle.scratch.specs.Scratch.{Passable, Room, withMD, Addable, Added, Prepared}
+use Rattle.scratch.specs.Scratch.{Passable, ScratchRoom, withMD, Addable, Added, Prepared}
 
 -- what is kept where as many words are
-pub room-kept : {b : List ℕ} {n : ℕ} {w w' : List ℕ} → Room b n w → length w' ≡ length w → Room b n w'
+pub room-kept : {b : List ℕ} {n : ℕ} {w w' : List ℕ} → ScratchRoom b n w → length w' ≡ length w → ScratchRoom b n w'
 room-kept room e = record { sound = room .sound; tasks = room .tasks; words = rw e (room .words) }
 
 -- room for the figures is room for the passes
-pub passable : {b : List ℕ} {n : ℕ} {w : List ℕ} → Room b n w → Passable b n w
+pub passable : {b : List ℕ} {n : ℕ} {w : List ℕ} → ScratchRoom b n w → Passable b n w
 passable room = record { sound = room .sound; tasks = room .tasks; words = omega (arith, room .words) }
 
 pub passable-kept : {b : List ℕ} {n : ℕ} {w w' : List ℕ} → Passable b n w → length w' ≡ length w → Passable b n w'
 passable-kept room e = record { sound = room .sound; tasks = room .tasks; words = rw e (room .words) }
 
--- what making the chains asks
-pub makeable : {b : List ℕ} {n : ℕ} {w : List ℕ} → Room b n w → (Sound b) × (n ≡ at.tasks b) × Chained b 0 (replicate (at.mostTasks + mostCores) 0)
-makeable {b} room = (room .sound, room .tasks, chained-none b)
+-- what making the links asks
+pub makeable : {b : List ℕ} {n : ℕ} {w : List ℕ} → ScratchRoom b n w → (Sound b) × (n ≡ at.tasks b) × LinkedTo b 0 (replicate (at.mostTasks + mostCores) 0)
+makeable {b} room = (room .sound, room .tasks, linked-none b)
 
 -- what a survey of every task asks
-pub surveyable : {b : List ℕ} {n : ℕ} {w : List ℕ} → Room b n w
+pub surveyable : {b : List ℕ} {n : ℕ} {w : List ℕ} → ScratchRoom b n w
     → (Sound b) × (n ≤ at.tasks b) × (4 * at.tasks b ≤ length w) × (true ≡ true → at.scratchWords (at.tasks b) ≤ length w)
 surveyable {b} {n} {w} room =
     let words : at.scratchWords (at.tasks b) ≤ length w = rw (← room .tasks) (room .words) in
     (room .sound, omega (arith, room .tasks), omega arith, λ _. words)
 
 -- what it leaves: the figures and the overheads are in w₁
-module _ {b : List ℕ} {n : ℕ} {w₀ w₁ sets : List ℕ} (room : Room b n w₀)
+module _ {b : List ℕ} {n : ℕ} {w₀ w₁ sets : List ℕ} (room : ScratchRoom b n w₀)
     (surveyed : (Surveyed b (at.tasks b) n w₁ sets) × (true ≡ true → Overheads b (at.tasks b) n w₁) × (length w₁ ≡ length w₀)) where
   held : Surveyed b n n w₁ sets
   held = surveyed-tasks (room .tasks) (surveyed .0)
@@ -126,16 +126,16 @@ module _ {b : List ℕ} {n : ℕ} {w : List ℕ} (ready : Prepared b n w) where
       let place : a + k ≡ 4 * n + (i * n + k) = omega arith in
       ap (λ (p : ℕ). getD w p 0) place ∙ ready .rows i k task (tasks-in k h))
 
-  -- what a sum takes: the chains, the PD, row i and the last row
+  -- what a sum takes: the links, the PD, row i and the last row
   pub sum-input : {links R : List ℕ} {i own all : ℕ} → Linked b links → CappedTimes b R → i < n → (own ≡ 4 * n + i * n) × (own + n ≤ at.scratchWords n) × (own + n ≤ at.mostScratch)
       → (all ≡ 4 * n + (n - 1) * n) × (all + n ≤ at.scratchWords n) × (all + n ≤ at.mostScratch)
       → SumInput b links (take (3 * n - 2 * n) (drop (2 * n) w)) (take (own + n - own) (drop own w)) (take (all + n - all) (drop all w)) R i
-  sum-input {links} {R} {i} {own} {all} chains times task row last =
+  sum-input {links} {R} {i} {own} {all} linked times task row last =
       let words : at.scratchWords n ≤ length w = ready .room .words in
       record {
         sound = ready .room .sound;
         task = rw (← ready .room .tasks) task;
-        chains = chains;
+        linked = linked;
         works = holds-part (taskPD b) (at.tasks b) (2 * n) (3 * n) w (omega (arith, ready .room .tasks)) (omega arith)
             (λ k h. ready .works k (tasks-in k h));
         owns = row-holds i own task (row .0) (row .1);

@@ -18,7 +18,7 @@ pub record Passable (b : List ℕ) (n : ℕ) (w : List ℕ) : Type 0 where
   pub words : 2 * n ≤ length w
 
 -- room for their figures too
-pub record Room (b : List ℕ) (n : ℕ) (w : List ℕ) : Type 0 where
+pub record ScratchRoom (b : List ℕ) (n : ℕ) (w : List ℕ) : Type 0 where
   pub sound : Sound b
   pub tasks : n ≡ at.tasks b
   pub words : scratchWords n ≤ length w
@@ -49,6 +49,6 @@ pub record Added (n count : ℕ) (w w' : List ℕ) : Type 0 where
 
 -- each task's PD, and D'(i, k) of each pair
 pub record Prepared (b : List ℕ) (n : ℕ) (w : List ℕ) : Type 0 where
-  pub room : Room b n w
+  pub room : ScratchRoom b n w
   pub works : (k : ℕ) → k < n → getD w (2 * n + k) 0 ≡ taskPD b k
   pub rows : (i k : ℕ) → i < n → k < n → getD w (4 * n + (i * n + k)) 0 ≡ memoryDemand b i k

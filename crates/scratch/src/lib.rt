@@ -1,21 +1,21 @@
 // The word scratch: the figures of every task, laid out for the passes, and a task's sum and its parts from them.
-use chains::CHAIN_WORDS;
 use figures::ECB_WORDS;
 use figures::row::place;
 use interference::SumParts;
 use interference::add_parts;
 use interference::parts_from;
 use interference::six;
+use linked_tasks::LINK_WORDS;
 ghost use mathlib.Core.Path.{_≡_};
 ghost use Prim.Native.Nat.{_≤_, _<_};
 ghost use lib.ListN.{length};
 ghost use Rattle.figures.specs.Survey.{Surveyed};
 ghost use Rattle.sums.specs.Sums.{taskSum};
-ghost use Rattle.sums.specs.Chains.{Linked};
+ghost use Rattle.sums.specs.Links.{Linked};
 ghost use Rattle.sums.specs.Inputs.{CappedTimes};
 ghost use Rattle.interference.specs.Parts.{sumParts, listed};
 ghost use Rattle.folds.specs.Stored.{Stored};
-ghost use Rattle.scratch.specs.Scratch.{Room, RowAddable, withMD, Addable, Added, Prepared};
+ghost use Rattle.scratch.specs.Scratch.{ScratchRoom, RowAddable, withMD, Addable, Added, Prepared};
 
 // Adds each task's MD to its word of the row at `at`.
 fn add_row(n: usize, at: usize, scratch: &mut [u32])
@@ -47,7 +47,7 @@ fn add_md(n: usize, scratch: &mut [u32])
 
 // Lays out the figures of every task, with each task's ECB as a record of the sets.
 pub fn prepare(board: &[u32], n: usize, scratch: &mut [u32], sets: &mut [u64; ECB_WORDS])
-    requires { ⌜ Room (now board) n (now scratch) ⌝ }
+    requires { ⌜ ScratchRoom (now board) n (now scratch) ⌝ }
     ensures { λ _. ⌜ (Prepared (now (board .entry)) n (now (scratch .exit))) × (length (now (scratch .exit)) ≡ length (now (scratch .entry)))
         × (Surveyed (now (board .entry)) n n (now (scratch .exit)) (now (sets .exit))) ⌝ }
 {
@@ -60,8 +60,8 @@ pub fn sum_of(board: &[u32], n: usize, scratch: &[u32], times: &[u32], i: usize)
     requires { ⌜ (Prepared (now board) n (now scratch)) × (CappedTimes (now board) (now times)) × (i < n) ⌝ }
     ensures { λ r. ⌜ r ≡ taskSum (now (board .entry)) (now (times .entry)) i ⌝ }
 {
-    let mut links = [0u32; CHAIN_WORDS];
-    chains::make(board, n, &mut links);
+    let mut links = [0u32; LINK_WORDS];
+    linked_tasks::make(board, n, &mut links);
     sum_along(board, n, &links, scratch, times, i)
 }
 
@@ -70,8 +70,8 @@ pub fn parts_of(board: &[u32], n: usize, scratch: &[u32], times: &[u32], i: usiz
     requires { ⌜ (Prepared (now board) n (now scratch)) × (CappedTimes (now board) (now times)) × (i < n) ⌝ }
     ensures { λ r. ⌜ r ≡ sumParts (now (board .entry)) (now (times .entry)) i ⌝ }
 {
-    let mut links = [0u32; CHAIN_WORDS];
-    chains::make(board, n, &mut links);
+    let mut links = [0u32; LINK_WORDS];
+    linked_tasks::make(board, n, &mut links);
     let mut parts = [0u64; 6];
     parts_along(board, n, &links, scratch, times, i, &mut parts);
     parts_from(parts)

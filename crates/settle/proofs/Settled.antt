@@ -11,7 +11,7 @@ use Rattle.refusals.specs.declared.Verdict.the-variants.{Passed, Refused as Ver
 use Rattle.passes.proofs.Ascending.{Ascending}
 use Rattle.passes.proofs.Orders.{settled-same}
 use Rattle.one_pass.proofs.Sums.{system-ascending}
-use Rattle.scratch.specs.Scratch.{Room, Prepared}
+use Rattle.scratch.specs.Scratch.{ScratchRoom, Prepared}
 use Rattle.checks.specs.Accepted.{Analysable}
 use Rattle.answers.specs.declared.Answer.{Answer}
 use Rattle.answers.specs.declared.Answer.the-variants.{Times, Late, Spent, Refused}
@@ -24,7 +24,7 @@ use Rattle.settle.specs.Settled.{AtSettled, WhereSettled, Settled}
 use Rattle.settle.proofs.Begun.{refused-not-passed}
 
 -- the scratch has room for what `begin` lays out
-pub room-taken : {b : List ℕ} {times : ℕ} (w : List ℕ) → Analysable b times (length w) → Room b (tasks b) w
+pub room-taken : {b : List ℕ} {times : ℕ} (w : List ℕ) → Analysable b times (length w) → ScratchRoom b (tasks b) w
 room-taken w taken = room-for w (taken .sound) refl (taken .scratchRoom)
 
 -- what holds of every answer that is not spent

@@ -13,7 +13,7 @@ ghost use Rattle.board.specs.Layout.{tasks};
 ghost use Rattle.refusals.specs.declared.Verdict.the-variants.{Passed};
 ghost use Rattle.passes.specs.Passes.{pass};
 ghost use Rattle.passes.specs.Visits.{inOrder, Permutation};
-ghost use Rattle.scratch.specs.Scratch.{Room, Prepared};
+ghost use Rattle.scratch.specs.Scratch.{ScratchRoom, Prepared};
 ghost use Rattle.checks.specs.Accepted.{Analysable};
 ghost use Rattle.answers.specs.Answers.{system};
 ghost use Rattle.answers.specs.Records.{mostFigureWords};
@@ -77,7 +77,7 @@ fn begin(
     words: &mut [u32],
     sets: &mut [u64; ECB_WORDS],
 ) -> usize
-    requires { ⌜ (verdict ≡ Passed → Room (now board) (tasks (now board)) (now scratch)) × (mostFigureWords ≤ length (now words)) ⌝ }
+    requires { ⌜ (verdict ≡ Passed → ScratchRoom (now board) (tasks (now board)) (now scratch)) × (mostFigureWords ≤ length (now words)) ⌝ }
     ensures { λ r. ⌜ Begun (Prepared (now (board .entry)) (tasks (now (board .entry)))) (now (board .entry)) verdict r
         (now (scratch .entry)) (now (scratch .exit)) (now (words .exit)) (now (sets .exit)) ⌝ }
 {

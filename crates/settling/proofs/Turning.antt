@@ -8,10 +8,10 @@ use native.Mathlib.Omega.{arith}
 use lib.ListN.{getD, take}
 use Rattle.folds.specs.Folds.{fillTo}
 use Rattle.folds.proofs.Stored.{filled-stored}
-use Rattle.sums.specs.Chains.{Linked}
+use Rattle.sums.specs.Links.{Linked}
 use Rattle.passes.specs.Visits.{inOrder, Permutation}
 use Rattle.passes.proofs.Ascending.{Ascending}
-use Rattle.passes.proofs.Settling.{after-rising}
+use Rattle.passes.proofs.Settling.{timesBy-rising}
 use Rattle.passes.proofs.InOrder.{inOrder-ascending}
 use Rattle.passes.proofs.Looping.{Passing, passing-capped}
 use Rattle.scratch.specs.Scratch.{Prepared}
@@ -44,7 +44,7 @@ module _ (b : List ℕ) {n : ℕ} (order : List ℕ) (tasks : n ≡ system b .co
         record {
           startable = record { room = passable-kept (passable (ready .room)) (stored .size); capped = passing-capped up none };
           prepared = prepared-stored ready stored (omega arith);
-          rises = λ i h. rw (none .times) (after-rising up 0 .rises i (rw (← tasks) h));
+          rises = λ i h. rw (none .times) (timesBy-rising up 0 .rises i (rw (← tasks) h));
           linked = linked;
           cores = cores;
           quiet = quiet-none b w (omega (arith, tasks, ready .room .sound .tasks));

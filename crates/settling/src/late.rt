@@ -16,7 +16,7 @@ fn first_late(board: &[u32], n: usize, times: &[u32]) -> usize
     let mut left = n;
     while 0 < left {
         let i = n - left;
-        let last = terms::rows::bound(board, i);
+        let last = board::fields::bound(board, i);
         if last < times[i] {
             return i;
         }

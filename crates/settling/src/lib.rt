@@ -2,9 +2,9 @@
 pub mod late;
 pub mod order;
 
-use chains::CHAIN_WORDS;
-use chains::MOST_CORES;
 use folds::words::clear;
+use linked_tasks::LINK_WORDS;
+use linked_tasks::MOST_CORES;
 use one_pass::advance;
 use one_pass::due::make_cores;
 use one_pass::make_pass;
@@ -38,8 +38,8 @@ pub fn run(board: &[u32], n: usize, limit: u32, scratch: &mut [u32]) -> Passes
         × Prepared (now (board .entry)) n (now (scratch .exit)) ⌝ }
 {
     clear(n, scratch);
-    let mut links = [0u32; CHAIN_WORDS];
-    chains::make(board, n, &mut links);
+    let mut links = [0u32; LINK_WORDS];
+    linked_tasks::make(board, n, &mut links);
     let mut on = [0u64; MOST_CORES];
     make_cores(board, n, &mut on);
     let mut due = !0u64;

@@ -1,9 +1,9 @@
 // The passes of a board in the order of a list of task numbers, over a prepared scratch.
 use crate::Passes;
 use crate::made;
-use chains::CHAIN_WORDS;
-use chains::MOST_CORES;
 use folds::words::clear;
+use linked_tasks::LINK_WORDS;
+use linked_tasks::MOST_CORES;
 use one_pass::due::make_cores;
 use one_pass::visits::visit_all;
 ghost use mathlib.Core.Path.{_≡_};
@@ -21,8 +21,8 @@ pub fn run(board: &[u32], n: usize, limit: u32, order: &[u32], scratch: &mut [u3
         × Prepared (now (board .entry)) n (now (scratch .exit)) ⌝ }
 {
     clear(n, scratch);
-    let mut links = [0u32; CHAIN_WORDS];
-    chains::make(board, n, &mut links);
+    let mut links = [0u32; LINK_WORDS];
+    linked_tasks::make(board, n, &mut links);
     let mut on = [0u64; MOST_CORES];
     make_cores(board, n, &mut on);
     let mut due = !0u64;

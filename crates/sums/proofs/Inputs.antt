@@ -6,7 +6,7 @@ use mathlib.Core.Path.{_≡_}
 use native.Mathlib.Omega.{arith}
 use Rattle.sums.specs.Sums.{lowest}
 use Rattle.sums.specs.Limits.{latestTime}
-use Rattle.sums.specs.Chains.{Linked}
+use Rattle.sums.specs.Links.{Linked}
 use Rattle.sums.specs.Inputs.{RowInput, CoresInput, SumInput}
 
 module _ (b links pd own all R : List ℕ) (i : ℕ) (h : SumInput b links pd own all R i) where
@@ -18,4 +18,4 @@ module _ (b links pd own all R : List ℕ) (i : ℕ) (h : SumInput b links pd ow
 
 -- j is task n as code computes it
 pub cores-input : {b links row R : List ℕ} {t j : ℕ} → RowInput b row R (lowest b) → j ≡ lowest b → t ≤ latestTime → Linked b links → CoresInput b links row R t j
-cores-input rows last early chains = record { rows = rw last rows; last = last; early = early; chains = chains }
+cores-input rows last early linked = record { rows = rw last rows; last = last; early = early; linked = linked }

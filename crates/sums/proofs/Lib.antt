@@ -7,7 +7,7 @@ pub mod PutOff
 pub mod ZeroTimes
 pub mod Punctual
 pub mod Numbers
-pub mod Chains
+pub mod Links
 pub mod Bounds
 pub mod Inputs
 pub mod Cases

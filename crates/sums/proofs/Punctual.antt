@@ -12,7 +12,7 @@ use Rattle.folds.proofs.Folds.{sumWhere-cong}
 use Rattle.board.specs.Layout.{tasks, accessCycles, core, period, deadline}
 use Rattle.figures.specs.Figures.{taskPD}
 use Rattle.sums.specs.Sums.{lowest, bound, addedJitter, releases, memoryDemand, window, carryIn, coreAccesses, lowerAccesses, ownAccesses, interference, busAccesses, refreshes, higherWork, taskSum}
-use Rattle.sums.specs.Chains.{isOn}
+use Rattle.sums.specs.Links.{isOn}
 use Rattle.sums.specs.Inputs.{ownCosts}
 use Rattle.sums.specs.Punctual.{Punctual, punctualWindow, punctualCarryIn, punctualCoreAccesses, punctualLowerAccesses, punctualCosts, punctualOwnAccesses, punctualInterference, punctualBusAccesses, punctualRefreshes, punctualHigherWork, punctualSum}
 use Rattle.sums.proofs.Jitter.{addedJitter-few}

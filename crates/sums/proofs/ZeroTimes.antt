@@ -15,7 +15,7 @@ use Rattle.board.specs.Layout.{cores, tasks, bus, slotsEach, slots, accessCycle
 use Rattle.figures.specs.Figures.{taskPD}
 use Rattle.sums.specs.Sums.{lowest, addedJitter, memoryDemand, isOther, isBefore, overCores, window, ownAccesses, carryIn, coreAccesses, interference, busAccesses, refreshes, higherWork, taskSum}
 use Rattle.sums.specs.Punctual.{Punctual}
-use Rattle.sums.specs.Chains.{isOn}
+use Rattle.sums.specs.Links.{isOn}
 use Rattle.sums.specs.Inputs.{releaseCost, ownCosts}
 use Rattle.sums.proofs.Jitter.{addedJitter-few}
 use Rattle.sums.proofs.PutOff.{refreshes-zero}

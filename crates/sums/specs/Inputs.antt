@@ -11,7 +11,7 @@ use Rattle.board.specs.Sound.{Sound}
 use Rattle.figures.specs.Figures.{taskPD}
 use Rattle.sums.specs.Sums.{lowest, bound, releases, memoryDemand}
 use Rattle.sums.specs.Limits.{latestTime}
-use Rattle.sums.specs.Chains.{isOn, Linked}
+use Rattle.sums.specs.Links.{isOn, Linked}
 
 -- the list begins with f 0 .. f (n - 1)
 pub record Holds (n : ℕ) (f : ℕ → ℕ) (l : List ℕ) : Type 0 where
@@ -30,18 +30,18 @@ pub record RowInput (b row R : List ℕ) (j : ℕ) : Type 0 where
   pub demands : Holds (tasks b) (memoryDemand b j) row
   pub times : CappedTimes b R
 
--- what the accesses of whole cores are added up from: task n, which is j, with its row and the times R, a window of t cycles, and the chains of the cores
+-- what the accesses of whole cores are added up from: task n, which is j, with its row and the times R, a window of t cycles, and the links of the cores
 pub record CoresInput (b links row R : List ℕ) (t j : ℕ) : Type 0 where
   pub rows : RowInput b row R j
   pub last : j ≡ lowest b
   pub early : t ≤ latestTime
-  pub chains : Linked b links
+  pub linked : Linked b links
 
--- task i at the times R, the chains of the cores, the tasks' PD, and the rows D'(i, _) and D'(n, _)
+-- task i at the times R, the links of the cores, the tasks' PD, and the rows D'(i, _) and D'(n, _)
 pub record SumInput (b links pd own all R : List ℕ) (i : ℕ) : Type 0 where
   pub sound : Sound b
   pub task : i < tasks b
-  pub chains : Linked b links
+  pub linked : Linked b links
   pub works : Holds (tasks b) (taskPD b) pd
   pub owns : Holds (tasks b) (memoryDemand b i) own
   pub alls : Holds (tasks b) (memoryDemand b (lowest b)) all

@@ -4,6 +4,6 @@ pub mod SixParts
 pub mod Plain
 pub mod Punctual
 pub mod Limits
-pub mod Chains
+pub mod Links
 pub mod Inputs
 pub mod Cases

@@ -10,7 +10,7 @@ use Rattle.folds.specs.Folds.{onlyIf}
 use Rattle.folds.proofs.Folds.{sumTo-next}
 use Rattle.board.specs.Layout.{core}
 use Rattle.sums.specs.Sums.{releases}
-use Rattle.sums.specs.Chains.{isOn}
+use Rattle.sums.specs.Links.{isOn}
 use Rattle.sums.specs.Inputs.{releaseCost, ownCosts}
 use Rattle.sums.proofs.Numbers.{product-cong}
 

@@ -5,7 +5,7 @@ use board::fields::access_cycles;
 use board::fields::period;
 use folds::ceil_div;
 use folds::floor_div;
-use folds::less;
+use folds::saturating_sub;
 use folds::wide;
 ghost use mathlib.Core.Path.{_≡_};
 ghost use Prim.Native.Nat.{_+_, _*_, _/_, _%_, _<_, _≤_, min};
@@ -57,5 +57,10 @@ pub fn carry_in(board: &[u32], row: &[u32], times: &[u32], t: u64, j: usize, k: 
     let accesses = demand(board, row, j, k);
     let span = t + time_and_jitter(board, times, k);
     let busy = accesses * d;
-    in_window(accesses, d, wide(period(board, k)), less(span, busy))
+    in_window(
+        accesses,
+        d,
+        wide(period(board, k)),
+        saturating_sub(span, busy),
+    )
 }

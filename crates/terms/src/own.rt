@@ -4,9 +4,9 @@ use crate::rows::time;
 use crate::rows::work;
 use board::fields::jitter;
 use board::fields::period;
-use chains::above;
 use folds::ceil_div_tested;
 use folds::wide;
+use linked_tasks::above;
 ghost use mathlib.Core.Path.{_≡_};
 ghost use Prim.Native.Nat.{_+_, _<_, _≤_};
 ghost use lib.ListN.{getD};
@@ -15,7 +15,7 @@ ghost use Rattle.board.specs.Sound.{Sound};
 ghost use Rattle.figures.specs.Figures.{taskPD};
 ghost use Rattle.sums.specs.Sums as spec;
 ghost use Rattle.sums.specs.Limits.{mostReleases, mostOwnAccesses, mostHigherWork};
-ghost use Rattle.sums.specs.Chains.{Linked};
+ghost use Rattle.sums.specs.Links.{Linked};
 ghost use Rattle.sums.specs.Inputs.{Holds, CappedTimes, RowInput, releaseCost};
 
 // The accesses and the work of some releases.
@@ -66,7 +66,7 @@ fn with_task(
     }
 }
 
-// S, and the work of the tasks above task i on its core, along the chain of that core.
+// S, and the work of the tasks above task i on its core, along the links of that core.
 pub fn released(
     board: &[u32],
     links: &[u32],

@@ -1,5 +1,4 @@
 // One accessor a list: the number of task k, with its range.
-use board::fields::deadline;
 use board::fields::jitter;
 use folds::wide;
 ghost use mathlib.Core.Path.{_≡_};
@@ -8,7 +7,6 @@ ghost use lib.ListN.{getD};
 ghost use Rattle.board.specs.Layout as at;
 ghost use Rattle.board.specs.Sound.{Sound};
 ghost use Rattle.figures.specs.Figures.{taskPD};
-ghost use Rattle.sums.specs.Sums as spec;
 ghost use Rattle.sums.specs.Sums.{memoryDemand};
 ghost use Rattle.sums.specs.Limits.{latestTime, mostWork, mostDemand};
 ghost use Rattle.sums.specs.Inputs.{Holds, CappedTimes};
@@ -27,14 +25,6 @@ pub fn demand(board: &[u32], row: &[u32], j: usize, k: usize) -> u64
     ensures { λ r. ⌜ (r ≡ memoryDemand (now (board .entry)) j k) × (r ≤ mostDemand) ⌝ }
 {
     wide(row[k])
-}
-
-// The largest time of task k that is not late: D − J.
-pub fn bound(board: &[u32], k: usize) -> u32
-    requires { ⌜ (Sound (now board)) × (k < at.tasks (now board)) ⌝ }
-    ensures { λ r. ⌜ (r ≡ spec.bound (now (board .entry)) k) × (r ≤ at.longest) ⌝ }
-{
-    deadline(board, k) - jitter(board, k)
 }
 
 // The time of task k.

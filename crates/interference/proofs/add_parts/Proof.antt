@@ -7,7 +7,7 @@ use Rattle.interference.proofs.Parts.{total-listed}
 use Rattle.interference.proofs.add_parts.Statement.{statement}
 use Rattle.interference.proofs.add_parts.Tie as tie
 
-fits : (s : tie.Start) → let p = s .args .parts in p .work + p .higher + p .own + p .others + p .blocking + p .refresh < 2 ^ 64
+fits : (s : tie.Start) → let p = s .args .parts in p .«own_work» + p .«higher_work» + p .«core_accesses» + p .«other_accesses» + p .«blocking_access» + p .refreshes < 2 ^ 64
 fits s = lt-of-le-of-lt (le-of-eq (total-listed (s .args .parts))) (s .pre)
 
 pub add-parts-spec : {M : Type 1} → statement M

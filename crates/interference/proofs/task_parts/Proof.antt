@@ -19,7 +19,7 @@ use Rattle.interference.proofs.task_parts.Tie as tie
 interference-requires : tie.Need-interference-requires
 interference-requires c κs =
     let h = c .before .before .before .before .before .before .before .pre in
-    ((own-row _ _ _ _ _ _ _ h, all-row _ _ _ _ _ _ _ h, h .chains), c .released .ensures .0)
+    ((own-row _ _ _ _ _ _ _ h, all-row _ _ _ _ _ _ _ h, h .linked), c .released .ensures .0)
 
 abbrev start : tie.After-interference → tie.Start
 start c = c .before .before .before .before .before .before .before .before

@@ -5,7 +5,7 @@ use Prim.Native.Nat.{ℕ}
 use native.Mathlib.Omega.{arith}
 use borrow.Author.Needs.{needs}
 use Rattle.board.specs.Layout.{tasks}
-use Rattle.scratch.specs.Scratch.{Room}
+use Rattle.scratch.specs.Scratch.{ScratchRoom}
 use Rattle.settle.proofs.Begun.{copied-words, begun-tasks, begun-none}
 use Rattle.settle.proofs.begin.Statement.{statement}
 use Rattle.settle.proofs.begin.Tie as tie
@@ -17,10 +17,10 @@ start-of i = i .before .before .before .before .before .before .before
 all : (i : tie.After-index) → i .index .result ≡ tasks (start-of i .args .board .now)
 all i = i .index .ensures .0 ∙ i .before .tasks .ensures .0
 
-room : (i : tie.After-index) → Room (start-of i .args .board .now) (i .index .result) (start-of i .args .scratch .now)
+room : (i : tie.After-index) → ScratchRoom (start-of i .args .board .now) (i .index .result) (start-of i .args .scratch .now)
 room i =
     let s = start-of i in
-    subst (λ (n : ℕ). Room (s .args .board .now) n (s .args .scratch .now)) (sym (all i)) (s .pre .0 (i .before .before .enum-told .given .1))
+    subst (λ (n : ℕ). ScratchRoom (s .args .board .now) n (s .args .scratch .now)) (sym (all i)) (s .pre .0 (i .before .before .enum-told .given .1))
 
 pub begin-spec : {M : Type 1} → statement M
 begin-spec =

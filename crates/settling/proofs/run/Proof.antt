@@ -6,7 +6,7 @@ use native.Mathlib.Omega.{arith}
 use lib.ListN.{length, getD}
 use borrow.Author.Count.{below-more}
 use borrow.Author.Needs.{needs}
-use Rattle.sums.proofs.Chains.{chained-none}
+use Rattle.sums.proofs.Links.{linked-none}
 use Rattle.scratch.proofs.Prepared.{passable, passable-kept, prepared-stored}
 use Rattle.one_pass.proofs.DueTasks.{cores-none}
 use Rattle.settling.specs.declared.Passes.the-variants.{Needed}
@@ -52,7 +52,7 @@ run-spec =
     Inv-passes
     μ-passes
     (λ c κs. let s = c .before .before .before in omega (arith, s .pre .room .words))
-    (λ c κs. let s = start-of (c .before .before .before) in (s .pre .room .sound, s .pre .room .tasks, chained-none _))
+    (λ c κs. let s = start-of (c .before .before .before) in (s .pre .room .sound, s .pre .room .tasks, linked-none _))
     (λ c κs. let s = start-of (c .before .before .before .before .before) in (s .pre .room .sound, s .pre .room .tasks, cores-none _))
     (λ c. let k = c .before .before .before .before .before .before in let s = start-of k in underway-start (s .args .limit) (s .pre) (k .clear .ensures))
     (λ c. search needs)

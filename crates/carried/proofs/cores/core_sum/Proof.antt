@@ -40,7 +40,7 @@ above-requires : tie.Need-above-requires Inv-loop μ-loop
 above-requires c κs =
     let l = c .before .before .before in
     let h = start l .pre .0 in
-    (h .rows .sound, h .chains, along-task _ _ _ _ _ _ _ h (l .loop .inv) (omega (arith, c .before .before .loop-test .taken)))
+    (h .rows .sound, h .linked, along-task _ _ _ _ _ _ _ h (l .loop .inv) (omega (arith, c .before .before .loop-test .taken)))
 
 loop-less : tie.Need-loop-less Inv-loop μ-loop
 loop-less c =
@@ -59,7 +59,7 @@ returns c =
     let h = start l .pre .0 in
     (reaches-cap (omega (arith, c .if1 .taken)) (along-below _ _ _ _ _ _ _ h (l .loop .inv)), along-few _ _ _ _ _ _ _ h (l .loop .inv))
 
--- the whole chain
+-- all tasks of the core
 returns-2 : tie.Need-returns-2 Inv-loop μ-loop
 returns-2 c =
     let l = c .before in

@@ -8,7 +8,7 @@ use lib.Dec.{ltb}
 use borrow.Author.Needs.{needs}
 use Rattle.board.specs.Layout.{tasks, core}
 use Rattle.bitset.specs.Bits.{wordOf}
-use Rattle.sums.specs.Chains.{isOn}
+use Rattle.sums.specs.Links.{isOn}
 use Rattle.one_pass.proofs.DueTasks.{joined-own, joined-off}
 use Rattle.one_pass.proofs.due.joined.Statement.{statement}
 use Rattle.one_pass.proofs.due.joined.Tie as tie

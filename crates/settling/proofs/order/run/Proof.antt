@@ -5,7 +5,7 @@ use mathlib.Core.Bool.{Bool, true, false, false≢true}
 use mathlib.Core.Path.{_≡_, refl, sym, ap, subst, _∙_}
 use native.Mathlib.Omega.{arith}
 use borrow.Author.Needs.{needs}
-use Rattle.sums.proofs.Chains.{chained-none}
+use Rattle.sums.proofs.Links.{linked-none}
 use Rattle.settling.specs.declared.Passes.the-variants.{Needed}
 use Rattle.passes.specs.Visits.{inOrder}
 use Rattle.one_pass.specs.System.{system}
@@ -60,7 +60,7 @@ run-spec =
     Inv-loop
     μ-loop
     (λ c κs. let s = c .before .before .before .before in omega (arith, s .pre .0 .room .words))
-    (λ c κs. let s = start-of (c .before .before .before) in (s .pre .0 .room .sound, s .pre .0 .room .tasks, chained-none _))
+    (λ c κs. let s = start-of (c .before .before .before) in (s .pre .0 .room .sound, s .pre .0 .room .tasks, linked-none _))
     (λ c κs. let s = start-of (c .before .before .before .before .before) in (s .pre .0 .room .sound, s .pre .0 .room .tasks, cores-none _))
     (λ c.
     let k = c .before .before .before .before .before .before in

@@ -18,7 +18,7 @@ returns c =
     let d = m .before .wide .ensures .0 ∙ m .before .before .access-cycles .ensures .0 in
     c .in-window .ensures
     ∙ carry-cong (m .demand .ensures .0) d (c .before .before .wide2 .ensures .0 ∙ c .before .before .before .period .ensures .0)
-    (omega (arith, c .before .less .ensures, product-cong (m .demand .ensures .0) d))
+    (omega (arith, c .before .saturating-sub .ensures, product-cong (m .demand .ensures .0) d))
 
 pub carry-in-spec : {M : Type 1} → statement M
 carry-in-spec =

@@ -12,10 +12,10 @@ use Rattle.board.specs.Layout.{core}
 use Rattle.figures.specs.Figures.{taskPD}
 use Rattle.sums.specs.Sums.{memoryDemand, ownAccesses, higherWork}
 use Rattle.sums.specs.Limits.{mostWork, mostDemand, mostReleases, mostOwnAccesses, mostHigherWork}
-use Rattle.sums.specs.Chains.{isOn}
+use Rattle.sums.specs.Links.{isOn}
 use Rattle.sums.specs.Inputs.{releaseCost}
 use Rattle.sums.proofs.Numbers.{product-bound, product-fits}
-use Rattle.sums.proofs.Chains.{chain-up}
+use Rattle.sums.proofs.Links.{link-up}
 use Rattle.sums.proofs.Bounds.{demand-bound, work-bound, ownCosts-bound}
 use Rattle.terms.proofs.Releases.{ownCosts-last}
 use Rattle.terms.proofs.own.released.Statement.{statement}
@@ -29,7 +29,7 @@ Inv-loop board links pd own times i sums₀ k₀ sums k =
 abbrev μ-loop : tie.MeasureT-loop
 μ-loop board links pd own times i sums₀ k₀ sums k = k
 
--- the tasks of the chain, and what they add, at so much a release
+-- the linked tasks, and what they add, at so much a release
 abbrev on : tie.Start Inv-loop μ-loop → ℕ → Bool
 on s = isOn (s .args .board .now) (core (s .args .board .now) (s .args .i))
 
@@ -72,12 +72,12 @@ above-requires c κs =
     let s = start l in
     (s .pre .0 .sound, s .pre .2, omega (arith, s .pre .0 .task, l .loop .inv .0 .low))
 
--- the next task of the chain
+-- the next linked task
 up : (c : tie.After-above2 Inv-loop μ-loop) → let l = c .before .before .before in c .above2 .result ≡ lastTo (on (start l)) (l .loop .k - 1)
 up c =
     let l = c .before .before .before in
     let s = start l in
-    chain-up (s .args .board .now) _ _ (l .loop .inv .0 .passes (l .loop .k - 1) (omega (arith, c .before .before .loop-test .taken))) (c .above2 .ensures)
+    link-up (s .args .board .now) _ _ (l .loop .inv .0 .passes (l .loop .k - 1) (omega (arith, c .before .before .loop-test .taken))) (c .above2 .ensures)
 
 loop-less : tie.Need-loop-less Inv-loop μ-loop
 loop-less c =

@@ -1,4 +1,4 @@
--- For the code: the tasks of a core as a chain: each names the next one above it.
+-- For the code: the tasks of a core linked to one another: each names the next one above it.
 -- Assumes nothing.
 use Prim.Native.Nat.{ℕ, _+_, _<_}
 use mathlib.Core.Bool.{Bool}
@@ -14,13 +14,13 @@ use Rattle.sums.specs.Limits.{mostCores}
 abbrev pub isOn : List ℕ → ℕ → ℕ → Bool
 isOn b y k = eqb (core b k) y
 
--- the chains of the first n tasks: for each task, the number, from 1, of the next one above it on its core; and after the words of the tasks,
+-- the links of the first n tasks: for each task, the number, from 1, of the next one above it on its core; and after the words of the tasks,
 -- for each core, the number of its last task. 0 where there is none
-pub record Chained (b : List ℕ) (n : ℕ) (l : List ℕ) : Type 0 where
+pub record LinkedTo (b : List ℕ) (n : ℕ) (l : List ℕ) : Type 0 where
   pub size : length l ≡ mostTasks + mostCores
   pub above : (k : ℕ) → k < n → getD l k 0 ≡ lastTo (isOn b (core b k)) k
   pub last : (y : ℕ) → y < mostCores → getD l (mostTasks + y) 0 ≡ lastTo (isOn b (y + 1)) n
 
 -- those of all tasks
 abbrev pub Linked : List ℕ → List ℕ → Type 0
-Linked b l = Chained b (tasks b) l
+Linked b l = LinkedTo b (tasks b) l

@@ -1,9 +1,9 @@
--- `terms::rows::bound` meets its contract.
+-- `board::fields::bound` meets its contract.
 -- Assumes nothing.
 use borrow.Author.Needs.{needs}
 use native.Mathlib.Omega.{arith}
-use Rattle.terms.proofs.rows.bound.Statement.{statement}
-use Rattle.terms.proofs.rows.bound.Tie as tie
+use Rattle.board.proofs.fields.bound.Statement.{statement}
+use Rattle.board.proofs.fields.bound.Tie as tie
 
 pub bound-spec : {M : Type 1} → statement M
 bound-spec = tie.close (tie.spec (λ c κs. search needs) (λ c κs. search needs) (λ c. search needs) (λ c. (omega arith, omega arith)))

@@ -1,4 +1,4 @@
-// The tasks of each core as a chain, so that a sum over one core meets no task of another.
+// The tasks of each core linked to one another, so that a sum over one core meets no task of another.
 use board::MOST_TASKS;
 use board::fields::core;
 use folds::index;
@@ -8,13 +8,13 @@ ghost use Rattle.folds.specs.Folds.{lastTo};
 ghost use Rattle.board.specs.Layout as at;
 ghost use Rattle.board.specs.Sound.{Sound, Between};
 ghost use Rattle.sums.specs.Limits.{mostCores};
-ghost use Rattle.sums.specs.Chains.{isOn, Chained, Linked};
+ghost use Rattle.sums.specs.Links.{isOn, LinkedTo, Linked};
 
 // ℓ.
 pub const MOST_CORES: usize = 8;
 
-// The words of the chains: one a task, then one a core.
-pub const CHAIN_WORDS: usize = MOST_TASKS + MOST_CORES;
+// The words of the links: one a task, then one a core.
+pub const LINK_WORDS: usize = MOST_TASKS + MOST_CORES;
 
 // Where the last task of core y stands.
 fn last_place(y: u32) -> usize
@@ -24,10 +24,10 @@ fn last_place(y: u32) -> usize
     MOST_TASKS + (index(y) - 1)
 }
 
-// Makes the chains in words that are all 0: for each task, the number from 1 of the next one above it on its core; then, for each core, that of its last
+// Makes the links in words that are all 0: for each task, the number from 1 of the next one above it on its core; then, for each core, that of its last
 // task. 0 where there is none.
-pub fn make(board: &[u32], n: usize, links: &mut [u32; CHAIN_WORDS])
-    requires { ⌜ (Sound (now board)) × (n ≡ at.tasks (now board)) × Chained (now board) 0 (now links) ⌝ }
+pub fn make(board: &[u32], n: usize, links: &mut [u32; LINK_WORDS])
+    requires { ⌜ (Sound (now board)) × (n ≡ at.tasks (now board)) × LinkedTo (now board) 0 (now links) ⌝ }
     ensures { λ _. ⌜ Linked (now (board .entry)) (now (links .exit)) ⌝ }
 {
     let mut k: usize = 0;

@@ -1,4 +1,4 @@
--- `chains::last_on` meets its contract.
+-- `linked_tasks::last_on` meets its contract.
 -- Assumes nothing.
 use borrow.Author.Needs.{needs}
 use mathlib.Core.List.{List}
@@ -10,9 +10,9 @@ use Rattle.folds.specs.Folds.{lastTo}
 use Rattle.board.specs.Layout.{mostTasks, tasks}
 use Rattle.board.specs.Sound.{Between}
 use Rattle.sums.specs.Limits.{mostCores}
-use Rattle.sums.specs.Chains.{isOn, Linked}
-use Rattle.chains.proofs.last_on.Statement.{statement}
-use Rattle.chains.proofs.last_on.Tie as tie
+use Rattle.sums.specs.Links.{isOn, Linked}
+use Rattle.linked_tasks.proofs.last_on.Statement.{statement}
+use Rattle.linked_tasks.proofs.last_on.Tie as tie
 
 last-is : (b l : List ℕ) (y : ℕ) → Linked b l → Between 1 mostCores y → getD l (mostTasks + (y - 1)) 0 ≡ lastTo (isOn b y) (tasks b)
 last-is b l y h some =

@@ -1,9 +1,9 @@
--- `chains::above` meets its contract.
+-- `linked_tasks::above` meets its contract.
 -- Assumes nothing.
 use borrow.Author.Needs.{needs}
 use mathlib.Core.Path.{_∙_}
-use Rattle.chains.proofs.above.Statement.{statement}
-use Rattle.chains.proofs.above.Tie as tie
+use Rattle.linked_tasks.proofs.above.Statement.{statement}
+use Rattle.linked_tasks.proofs.above.Tie as tie
 
 returns : tie.Need-returns
 returns c =

@@ -1,4 +1,4 @@
--- The chains of the tasks of each core: how they grow by a task, and the way up from a task.
+-- The links between the tasks of each core: how they grow by a task, and the way up from a task.
 -- Assumes nothing.
 use Prim.Native.Nat.{ℕ, _+_, _-_, _<_}
 use mathlib.Core.Bool.{true}
@@ -14,11 +14,11 @@ use Rattle.folds.proofs.Last.{lastTo-none, lastTo-here, lastTo-other}
 use Rattle.board.specs.Layout.{mostTasks, core}
 use Rattle.board.specs.Sound.{Between}
 use Rattle.sums.specs.Limits.{mostCores}
-use Rattle.sums.specs.Chains.{isOn, Chained}
+use Rattle.sums.specs.Links.{isOn, LinkedTo}
 
 -- no task yet
-pub chained-none : (b : List ℕ) → Chained b 0 (replicate (mostTasks + mostCores) 0)
-chained-none b =
+pub linked-none : (b : List ℕ) → LinkedTo b 0 (replicate (mostTasks + mostCores) 0)
+linked-none b =
     record {
       size = length-replicate {A = ℕ} (mostTasks + mostCores) 0;
       above = λ k h. absurd (omega arith);
@@ -26,9 +26,9 @@ chained-none b =
     }
 
 -- task k follows what was the last of its core, which stands at `at`, and is now the last
-pub chained-turn : (b : List ℕ) (k : ℕ) {l : List ℕ} {at v w : ℕ} → Chained b k l → k < mostTasks → Between 1 mostCores (core b k)
-    → at ≡ mostTasks + (core b k - 1) → v ≡ getD l at 0 → w ≡ k + 1 → Chained b (k + 1) (set (set l k v) at w)
-chained-turn b k {l} {at} {v} {w} h few on place old new =
+pub linked-turn : (b : List ℕ) (k : ℕ) {l : List ℕ} {at v w : ℕ} → LinkedTo b k l → k < mostTasks → Between 1 mostCores (core b k)
+    → at ≡ mostTasks + (core b k - 1) → v ≡ getD l at 0 → w ≡ k + 1 → LinkedTo b (k + 1) (set (set l k v) at w)
+linked-turn b k {l} {at} {v} {w} h few on place old new =
     record {
       size = length-set (set l k v) at w ∙ length-set l k v ∙ h .size;
       above = λ m less. earlier m (ℕ-discrete m k) less;
@@ -67,5 +67,5 @@ chained-turn b k {l} {at} {v} {w} h few on place old new =
 -- ---- on the way up
 
 -- the next task above task k on core y, on which task k is
-pub chain-up : (b : List ℕ) (y k : ℕ) {next : ℕ} → isOn b y k ≡ true → next ≡ lastTo (isOn b (core b k)) k → next ≡ lastTo (isOn b y) k
-chain-up b y k on up = up ∙ ap (λ (z : ℕ). lastTo (isOn b z) k) (eqb-true (core b k) y on)
+pub link-up : (b : List ℕ) (y k : ℕ) {next : ℕ} → isOn b y k ≡ true → next ≡ lastTo (isOn b (core b k)) k → next ≡ lastTo (isOn b y) k
+link-up b y k on up = up ∙ ap (λ (z : ℕ). lastTo (isOn b z) k) (eqb-true (core b k) y on)
