@@ -2,7 +2,7 @@
 use folds::index;
 use folds::larger;
 ghost use mathlib.Core.Path.{_≡_};
-ghost use Prim.Native.Nat.{_+_, _*_, _<_, _≤_};
+ghost use Prim.Native.Nat.{_+_, _-_, _*_, _<_, _≤_};
 ghost use Rattle.board.specs.Layout as at;
 ghost use Rattle.board.specs.Sound.{Sound, Between};
 
@@ -217,7 +217,7 @@ pub fn jitter(board: &[u32], k: usize) -> u32
 // The largest time of task k that is not late: D − J.
 pub fn bound(board: &[u32], k: usize) -> u32
     requires { ⌜ (Sound (now board)) × (k < at.tasks (now board)) ⌝ }
-    ensures { λ r. ⌜ (r ≡ at.bound (now (board .entry)) k) × (r ≤ at.longest) ⌝ }
+    ensures { λ r. ⌜ (r ≡ at.deadline (now (board .entry)) k - at.jitter (now (board .entry)) k) × (r ≤ at.longest) ⌝ }
 {
     deadline(board, k) - jitter(board, k)
 }
