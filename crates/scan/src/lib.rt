@@ -87,8 +87,8 @@ fn under_cache(
 {
     let len = index(fields::trace_length(board, at.trace));
     let base = 65536 * (at.trace as u64);
-    let pd = demand::pd(board, at.start, len);
     let md = mark_trace(board, caches, at.start, len, base, held, ecb, marks);
+    let pd = demand::pd(board, at.start, len);
     let demand = Demand { pd, md };
     if rows {
         raise_points(board, i, len, caches, higher, evicted, marks, row);

@@ -46,15 +46,15 @@ module _ (c : tie.After-index) where
 base-fits : tie.Need-mul-base
 base-fits c = omega (arith, start c .pre .1 .trace, start c .pre .0 .sound .traces)
 
-marks-length : (c : tie.After-mark-trace-arg3) → length (now (start (c .before .before .before .before) .args .marks)) ≡ 2048
+marks-length : (c : tie.After-mark-trace-arg3) → length (now (start (c .before .before .before) .args .marks)) ≡ 2048
 marks-length c = search needs
 
-held-length : (c : tie.After-mark-trace-arg3) → length (now (start (c .before .before .before .before) .args .held)) ≡ 4096
+held-length : (c : tie.After-mark-trace-arg3) → length (now (start (c .before .before .before) .args .held)) ≡ 4096
 held-length c = search needs
 
 asks : tie.Need-mark-trace-requires
 asks c κs =
-    let read = c .before .before .before .before in
+    let read = c .before .before .before in
     let s = start read in (
       s .pre .0 .sound,
       lie read,
@@ -70,7 +70,7 @@ asks c κs =
 -- what the marks say
 module _ (c : tie.After-mark-trace) where
   abbrev read : tie.After-index
-  read = c .before .before .before .before .before
+  read = c .before .before .before .before
 
   abbrev caches : ℕ
   caches = start read .args .caches
@@ -90,35 +90,38 @@ module _ (c : tie.After-mark-trace) where
 raises : tie.Need-raise-points-requires
 raises c κs =
     let wanted = c .before .before .before in
-    let found = wanted .before .before .before in
+    let found = wanted .before .before .before .before in
     let s = start (read found) in
     (s .pre .0, s .pre .7 (wanted .if1 .taken), s .pre .2, levels found, (s .pre .6, omega (arith, s .pre .5, s .pre .0 .sound .memory)), lie (read found) .short, omega (arith, marks-room found, lie (read found) .short))
 
 -- PD, MD, the evicting cache blocks, and the blocks held
-four : (c : tie.After-mark-trace)
-    → let s = start (read c) in
+four : (c : tie.After-pd)
+    → let m = c .before .before .before in
+    let s = start (read m) in
     let t = traceOf (now (s .args .board)) (s .args .at .trace) in
-    (c .before .before .before .before .pd .result ≡ tracePD t) × (c .mark-trace .result ≡ traceMD t)
-    × (c .mark-trace .last .1 .1 .1 .1 .1 .1 .0 ≡ wordsOf 8 (λ s'. member (now (s .args .ecb)) s' || evicts t s'))
-    × AllEarlier (baseOf (s .args .at .trace + 1)) (c .mark-trace .last .1 .1 .1 .1 .1 .0)
+    (c .pd .result ≡ tracePD t) × (m .mark-trace .result ≡ traceMD t)
+    × (m .mark-trace .last .1 .1 .1 .1 .1 .1 .0 ≡ wordsOf 8 (λ s'. member (now (s .args .ecb)) s' || evicts t s'))
+    × AllEarlier (baseOf (s .args .at .trace + 1)) (m .mark-trace .last .1 .1 .1 .1 .1 .0)
 four c =
-    let s = start (read c) in
-    let t = the-trace (read c) in
+    let m = c .before .before .before in
+    let s = start (read m) in
+    let t = the-trace (read m) in
     let next : 65536 * s .args .at .trace + 65536 ≡ baseOf (s .args .at .trace + 1) = omega arith in (
-      c .before .before .before .before .pd .ensures ∙ ap tracePD t,
-      c .mark-trace .ensures .0 ∙ ap traceMD t,
-      c .mark-trace .ensures .2 ∙ ap (λ (u : Trace). wordsOf 8 (λ s'. member (now (s .args .ecb)) s' || evicts u s')) t,
-      subst (λ (base : ℕ). AllEarlier base (c .mark-trace .last .1 .1 .1 .1 .1 .0)) next (c .mark-trace .ensures .3),
+      c .pd .ensures ∙ ap tracePD t,
+      m .mark-trace .ensures .0 ∙ ap traceMD t,
+      m .mark-trace .ensures .2 ∙ ap (λ (u : Trace). wordsOf 8 (λ s'. member (now (s .args .ecb)) s' || evicts u s')) t,
+      subst (λ (base : ℕ). AllEarlier base (m .mark-trace .last .1 .1 .1 .1 .1 .0)) next (m .mark-trace .ensures .3),
     )
 
 returns : tie.Need-returns
 returns c =
-    let found = c .before .before .before .before .before .before .before in
+    let done = c .before .before .before .before .before in
+    let found = done .before .before .before in
     let s = start (read found) in
     let a = s .args in
     let b = now (a .board) in
     let t : Trace = trace (read found) in
-    let all = four found in
+    let all = four done in
     record {
       pd = all .0;
       md = all .1;
@@ -132,7 +135,7 @@ returns c =
 
 plain : tie.Need-returns-2
 plain c =
-    let all = four (c .before .before .before) in
+    let all = four (c .before) in
     record {
       pd = all .0;
       md = all .1;
@@ -142,4 +145,4 @@ plain c =
     }
 
 pub under-cache-spec : {M : Type 1} → statement M
-under-cache-spec = tie.close (tie.spec (λ c κs. search needs) (λ c κs. search needs) base-fits (λ c κs. lie c) asks raises (λ c. search needs) returns (λ c. search needs) plain)
+under-cache-spec = tie.close (tie.spec (λ c κs. search needs) (λ c κs. search needs) base-fits asks (λ c κs. lie (c .before .before .before .before .before .before)) raises (λ c. search needs) returns (λ c. search needs) plain)
