@@ -24,6 +24,7 @@ fn carry_off(board: &[u32], row: &[u32], times: &[u32], t: u64, x: u32, j: usize
 }
 
 // The sum of W(j, k) within t cycles over the tasks up to j off core x.
+// It has a loop of its own: with one function for it and for `others_from`, which the compiler then puts in line for neither, a pass of bus 0 takes a quarter longer.
 pub fn others(board: &[u32], row: &[u32], times: &[u32], t: u64, x: u32, j: usize) -> u64
     requires { ⌜ RowInput (now board) (now row) (now times) j × (t ≤ latestTime) ⌝ }
     ensures { λ r. ⌜ (r ≡ carriedOff (now (board .entry)) (now (times .entry)) t x j 0) × (r ≤ mostAccesses) ⌝ }
