@@ -70,8 +70,8 @@ fn processor_priority(
     others.before + smaller(s, others.after)
 }
 
-// Bus 2.
-fn fifo(board: &[u32], links: &[u32], all: &[u32], times: &[u32], i: usize) -> u64
+// Bus 2: the accesses of the cores on both sides.
+fn queued(board: &[u32], links: &[u32], all: &[u32], times: &[u32], i: usize) -> u64
     requires { ⌜ RowInput (now board) (now all) (now times) (spec.lowest (now board)) × (i < at.tasks (now board)) × Linked (now board) (now links) ⌝ }
     ensures { λ r. ⌜ r ≡ spec.interference (now (board .entry)) (now (times .entry)) i 2 ⌝ }
 {
@@ -87,6 +87,18 @@ fn fifo(board: &[u32], links: &[u32], all: &[u32], times: &[u32], i: usize) -> u
         NO_CAP,
     );
     others.before + others.after
+}
+
+// The same, with no call where there is no other core.
+fn fifo(board: &[u32], links: &[u32], all: &[u32], times: &[u32], i: usize) -> u64
+    requires { ⌜ RowInput (now board) (now all) (now times) (spec.lowest (now board)) × (i < at.tasks (now board)) × Linked (now board) (now links) ⌝ }
+    ensures { λ r. ⌜ r ≡ spec.interference (now (board .entry)) (now (times .entry)) i 2 ⌝ }
+{
+    if cores(board) == 1 {
+        0
+    } else {
+        queued(board, links, all, times, i)
+    }
 }
 
 // Bus 3.
@@ -119,8 +131,8 @@ fn tdma(board: &[u32], times: &[u32], i: usize, s: u64) -> u64
     (wide(cores(board)) - 1) * v * s
 }
 
-// The interference of task i by its bus, with s the accesses of its own core.
-fn by_bus(
+// The interference of task i, with s the accesses of its own core.
+pub fn interference(
     board: &[u32],
     links: &[u32],
     own: &[u32],
@@ -141,27 +153,5 @@ fn by_bus(
         2 => fifo(board, links, all, times, i),
         3 => round_robin(board, links, all, times, i, s),
         _ => tdma(board, times, i, s),
-    }
-}
-
-// The same, with no look at the bus where no core but its own is there.
-pub fn interference(
-    board: &[u32],
-    links: &[u32],
-    own: &[u32],
-    all: &[u32],
-    times: &[u32],
-    i: usize,
-    s: u64,
-) -> u64
-    requires { ⌜ RowInput (now board) (now own) (now times) i × RowInput (now board) (now all) (now times) (spec.lowest (now board))
-        × Linked (now board) (now links) ⌝ }
-    requires { ⌜ s ≡ spec.ownAccesses (now board) (now times) i ⌝ }
-    ensures { λ r. ⌜ r ≡ spec.interference (now (board .entry)) (now (times .entry)) i (at.bus (now (board .entry))) ⌝ }
-{
-    if cores(board) == 1 {
-        0
-    } else {
-        by_bus(board, links, own, all, times, i, s)
     }
 }
