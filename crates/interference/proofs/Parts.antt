@@ -6,7 +6,8 @@ use mathlib.Core.Path.{_≡_, refl, ap, _∙_}
 use native.Mathlib.Omega.{arith}
 use Rattle.folds.specs.Folds.{sumTo}
 use Rattle.board.specs.Layout.{bus, accessCycles}
-use Rattle.sums.specs.Sums.{interference, higherWork, taskSum}
+use Rattle.figures.specs.Figures.{taskPD}
+use Rattle.sums.specs.Sums.{ownAccesses, interference, higherWork, taskSum}
 use Rattle.sums.specs.SixParts.{ownWork, ownAccessPart, blockingPart, refreshPart, sixParts, total}
 use Rattle.sums.proofs.SixParts.{interferencePart-is, taskSum-parts}
 use Rattle.interference.specs.declared.SumParts.{SumParts}
@@ -37,3 +38,9 @@ module _ (b R : List ℕ) (i : ℕ) where
   -- and added up
   pub sumParts-add : {p : SumParts} → p ≡ sumParts b R i → total (listed p) ≡ taskSum b R i
   sumParts-add e = ap (λ (p : SumParts). total (listed p)) e ∙ ap total listed-parts ∙ taskSum-parts b R i
+
+  -- as the counts of a sum give them
+  pub counted-parts : taskPD b i + higherWork b R i + ownAccesses b R i * accessCycles b + interference b R i (bus b) * accessCycles b + accessCycles b + refreshPart b R i
+      ≡ taskSum b R i
+  unfolding sumParts
+  counted-parts = omega (arith, total-listed (sumParts b R i), sumParts-add {p = sumParts b R i} refl, interferencePart-is b R i)

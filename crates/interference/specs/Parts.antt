@@ -2,7 +2,8 @@
 -- Assumes nothing.
 use Prim.Native.Nat.{ℕ}
 use mathlib.Core.List.{List, [], _∷_}
-use Rattle.sums.specs.Sums.{higherWork}
+use Rattle.board.specs.Layout.{bus}
+use Rattle.sums.specs.Sums.{ownAccesses, interference, higherWork}
 use Rattle.sums.specs.SixParts.{ownWork, ownAccessPart, interferencePart, blockingPart, refreshPart}
 use Rattle.interference.specs.declared.SumParts.{SumParts}
 
@@ -20,3 +21,7 @@ sumParts b R i = record {
 -- the six numbers of such a struct, in document 02's order
 abbrev pub listed : SumParts → List ℕ
 listed p = p .«own_work» ∷ p .«higher_work» ∷ p .«core_accesses» ∷ p .«other_accesses» ∷ p .«blocking_access» ∷ p .refreshes ∷ []
+
+-- for the code: what a sum counts on its way: the work of higher tasks, S and the interference
+abbrev pub countsOf : List ℕ → List ℕ → ℕ → List ℕ
+countsOf b R i = higherWork b R i ∷ ownAccesses b R i ∷ interference b R i (bus b) ∷ []

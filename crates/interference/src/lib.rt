@@ -8,10 +8,14 @@ use terms::refresh::refreshes;
 use terms::rows::work;
 ghost use mathlib.Core.Path.{_≡_};
 ghost use Prim.Native.Nat.{_<_, _^_};
+ghost use Rattle.board.specs.Layout.{tasks};
+ghost use Rattle.board.specs.Sound.{Sound};
+ghost use Rattle.figures.specs.Figures.{taskPD};
+ghost use Rattle.sums.specs.Sums.{taskSum};
 ghost use Rattle.sums.specs.SixParts.{total};
-ghost use Rattle.sums.specs.Inputs.{SumInput};
+ghost use Rattle.sums.specs.Inputs.{CappedTimes, SumInput};
 ghost use Rattle.interference.specs.declared.SumParts.{SumParts};
-ghost use Rattle.interference.specs.Parts.{sumParts, listed};
+ghost use Rattle.interference.specs.Parts.{sumParts, listed, countsOf};
 
 mod bus;
 
@@ -26,8 +30,9 @@ pub struct SumParts {
     pub refreshes: u64,
 }
 
-// The parts of Sum_i at these times, from the links of the cores, the tasks' PD and the rows D'(i, _) and D'(n, _).
-pub fn task_parts(
+// Sum_i at these times, as it is printed, from the links of the cores, the tasks' PD and the rows D'(i, _) and D'(n, _). What it counted on the way goes to
+// `counts`, early, so that callers who do not read it pay little.
+pub fn task_sum(
     board: &[u32],
     links: &[u32],
     pd: &[u32],
@@ -35,23 +40,47 @@ pub fn task_parts(
     all: &[u32],
     times: &[u32],
     i: usize,
-) -> SumParts
+    counts: &mut [u64; 3],
+) -> u64
     requires { ⌜ SumInput (now board) (now links) (now pd) (now own) (now all) (now times) i ⌝ }
-    ensures { λ r. ⌜ r ≡ sumParts (now (board .entry)) (now (times .entry)) i ⌝ }
+    ensures { λ r. ⌜ (r ≡ taskSum (now (board .entry)) (now (times .entry)) i)
+        × (now (counts .exit) ≡ countsOf (now (board .entry)) (now (times .entry)) i) ⌝ }
 {
     let core = released(board, links, pd, own, times, i);
     let s = core.accesses;
+    let higher = core.work;
     let others = interference(board, links, own, all, times, i, s);
+    *counts = [higher, s, others];
     let count = s + others + 1;
     let d = wide(access_cycles(board));
     let dr = wide(refresh_cycles(board));
+    work(board, pd, i) + higher + count * d + refreshes(board, times, i, count) * dr
+}
+
+// The parts of Sum_i at these times, from PD_i, the sum, and what it counted: the refreshes are what is left of it.
+pub fn task_parts(
+    board: &[u32],
+    times: &[u32],
+    i: usize,
+    pd: u64,
+    sum: u64,
+    counts: [u64; 3],
+) -> SumParts
+    requires { ⌜ (Sound (now board)) × CappedTimes (now board) (now times) × (i < tasks (now board)) × (pd ≡ taskPD (now board) i)
+        × (sum ≡ taskSum (now board) (now times) i) × (counts ≡ countsOf (now board) (now times) i) ⌝ }
+    ensures { λ r. ⌜ r ≡ sumParts (now (board .entry)) (now (times .entry)) i ⌝ }
+{
+    let d = wide(access_cycles(board));
+    let higher = counts[0];
+    let core = counts[1] * d;
+    let others = counts[2] * d;
     SumParts {
-        own_work: work(board, pd, i),
-        higher_work: core.work,
-        core_accesses: s * d,
-        other_accesses: others * d,
+        own_work: pd,
+        higher_work: higher,
+        core_accesses: core,
+        other_accesses: others,
         blocking_access: d,
-        refreshes: refreshes(board, times, i, count) * dr,
+        refreshes: sum - (pd + higher + core + others + d),
     }
 }
 
@@ -67,20 +96,6 @@ pub fn six(parts: SumParts) -> [u64; 6]
         parts.blocking_access,
         parts.refreshes,
     ]
-}
-
-// The parts that six numbers in that order are.
-pub fn parts_from(numbers: [u64; 6]) -> SumParts
-    ensures { λ r. ⌜ ((p : SumParts) → numbers ≡ listed p → r ≡ p) ⌝ }
-{
-    SumParts {
-        own_work: numbers[0],
-        higher_work: numbers[1],
-        core_accesses: numbers[2],
-        other_accesses: numbers[3],
-        blocking_access: numbers[4],
-        refreshes: numbers[5],
-    }
 }
 
 // The parts added up: of the parts of a sum, that sum.

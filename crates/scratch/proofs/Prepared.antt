@@ -4,7 +4,7 @@ use Prim.Native.Nat.{ℕ, _+_, _-_, _*_, _≤_, _<_, _^_}
 use mathlib.Core.List.{List}
 use mathlib.Core.Bool.{true}
 use mathlib.Core.Path.{_≡_, refl, sym, ap, ap₂, subst, _∙_}
-use native.Mathlib.Nat.{add-comm, lt-of-le-of-lt, le-of-eq}
+use native.Mathlib.Nat.{add-comm}
 use native.Mathlib.Omega.{arith}
 use lib.ListN.{length, getD, take, drop, replicate, length-drop}
 use lib.Seq.{length-take-le, getD-take, getD-drop}
@@ -20,11 +20,6 @@ use Rattle.sums.specs.Links.{LinkedTo, Linked}
 use Rattle.sums.specs.Limits.{mostCores}
 use Rattle.sums.proofs.Links.{linked-none}
 use Rattle.sums.specs.Inputs.{Holds, CappedTimes, SumInput}
-use Rattle.sums.specs.SixParts.{total}
-use Rattle.sums.proofs.Bounds.{taskSum-bound}
-use Rattle.interference.specs.declared.SumParts.{SumParts}
-use Rattle.interference.specs.Parts.{sumParts, listed}
-use Rattle.interference.proofs.Parts.{sumParts-add}
 use Rattle.folds.specs.Stored.{Stored}
 use Rattle.scratch.specs.Scratch.{Passable, ScratchRoom, withMD, Addable, Added, Prepared}
 
@@ -143,8 +138,3 @@ module _ {b : List ℕ} {n : ℕ} {w : List ℕ} (ready : Prepared b n w) where
             (row-holds (n - 1) all (omega arith) (last .0) (last .1));
         times = times;
       }
-
-  -- and the parts of such a sum stay below 2^64 together
-  pub parts-fit : {R : List ℕ} {i : ℕ} {p : SumParts} → CappedTimes b R → i < n → p ≡ sumParts b R i → total (listed p) < 2 ^ 64
-  parts-fit {R} {i} times task e =
-      lt-of-le-of-lt (le-of-eq (sumParts-add b R i e)) (taskSum-bound b R (ready .room .sound) times i (rw (← ready .room .tasks) task))

@@ -1,10 +1,9 @@
 // The word scratch: the figures of every task, laid out for the passes, and a task's sum and its parts from them.
 use figures::ECB_WORDS;
 use figures::row::place;
+use folds::wide;
 use interference::SumParts;
-use interference::add_parts;
-use interference::parts_from;
-use interference::six;
+use interference::task_parts;
 use linked_tasks::LINK_WORDS;
 ghost use mathlib.Core.Path.{_≡_};
 ghost use Prim.Native.Nat.{_≤_, _<_};
@@ -13,7 +12,7 @@ ghost use Rattle.figures.specs.Survey.{Surveyed};
 ghost use Rattle.sums.specs.Sums.{taskSum};
 ghost use Rattle.sums.specs.Links.{Linked};
 ghost use Rattle.sums.specs.Inputs.{CappedTimes};
-ghost use Rattle.interference.specs.Parts.{sumParts, listed};
+ghost use Rattle.interference.specs.Parts.{sumParts, countsOf};
 ghost use Rattle.folds.specs.Stored.{Stored};
 ghost use Rattle.scratch.specs.Scratch.{ScratchRoom, RowAddable, withMD, Addable, Added, Prepared};
 
@@ -72,9 +71,9 @@ pub fn parts_of(board: &[u32], n: usize, scratch: &[u32], times: &[u32], i: usiz
 {
     let mut links = [0u32; LINK_WORDS];
     linked_tasks::make(board, n, &mut links);
-    let mut parts = [0u64; 6];
-    parts_along(board, n, &links, scratch, times, i, &mut parts);
-    parts_from(parts)
+    let mut counts = [0u64; 3];
+    let sum = along(board, n, &links, scratch, times, i, &mut counts);
+    task_parts(board, times, i, wide(scratch[2 * n + i]), sum, counts)
 }
 
 // The sum along links that are made already: for callers that sum many tasks.
@@ -89,27 +88,27 @@ pub fn sum_along(
     requires { ⌜ (Prepared (now board) n (now scratch)) × (CappedTimes (now board) (now times)) × (i < n) × Linked (now board) (now links) ⌝ }
     ensures { λ r. ⌜ r ≡ taskSum (now (board .entry)) (now (times .entry)) i ⌝ }
 {
-    let mut parts = [0u64; 6];
-    parts_along(board, n, links, scratch, times, i, &mut parts)
+    let mut counts = [0u64; 3];
+    along(board, n, links, scratch, times, i, &mut counts)
 }
 
-// The sum along such links, with its parts. They go to a lent array, which the callers that need the sum alone do not read.
-fn parts_along(
+// The sum along such links, and what it counted, which goes to a lent array: the callers that need the sum alone do not read it.
+fn along(
     board: &[u32],
     n: usize,
     links: &[u32],
     scratch: &[u32],
     times: &[u32],
     i: usize,
-    numbers: &mut [u64; 6],
+    counts: &mut [u64; 3],
 ) -> u64
     requires { ⌜ (Prepared (now board) n (now scratch)) × (CappedTimes (now board) (now times)) × (i < n) × Linked (now board) (now links) ⌝ }
     ensures { λ r. ⌜ (r ≡ taskSum (now (board .entry)) (now (times .entry)) i)
-        × (now (numbers .exit) ≡ listed (sumParts (now (board .entry)) (now (times .entry)) i)) ⌝ }
+        × (now (counts .exit) ≡ countsOf (now (board .entry)) (now (times .entry)) i) ⌝ }
 {
     let own = place(n, i);
     let all = place(n, n - 1);
-    let parts = interference::task_parts(
+    interference::task_sum(
         board,
         links,
         &scratch[2 * n..3 * n],
@@ -117,7 +116,6 @@ fn parts_along(
         &scratch[all..all + n],
         times,
         i,
-    );
-    *numbers = six(parts);
-    add_parts(parts)
+        counts,
+    )
 }

@@ -1,72 +1,65 @@
--- `interference::task_parts` meets its contract.
+-- `interference::task_parts` meets its contract: the parts add up to the sum, so that the refreshes are what the other five leave of it.
 -- Assumes nothing.
-use Prim.Native.Nat.{ℕ, _+_, _≤_}
-use mathlib.Core.Path.{_≡_, ap₂, _∙_}
-use native.Mathlib.Nat.{le-trans, le-of-eq}
+use Prim.Native.Nat.{ℕ, _*_, _^_, _<_}
+use mathlib.Core.List.{List}
+use mathlib.Core.Path.{_≡_, ap, _∙_}
 use native.Mathlib.Omega.{arith}
-use lib.Dec.{lit<}
+use lib.ListN.{getD}
 use borrow.Author.Needs.{needs}
-use Rattle.board.specs.Layout.{refresh}
-use Rattle.sums.specs.Sums.{busAccesses}
-use Rattle.sums.specs.Limits.{longestAccess, mostBusAccesses}
-use Rattle.sums.proofs.Numbers.{product-cong, product-fits}
-use Rattle.sums.proofs.Inputs.{own-row, all-row}
-use Rattle.sums.proofs.Bounds.{busAccesses-bound, refreshes-bound}
-use Rattle.interference.proofs.Parts.{sumParts-is}
+use Rattle.board.specs.Layout.{bus, accessCycles}
+use Rattle.sums.specs.Sums.{ownAccesses, interference, higherWork, taskSum}
+use Rattle.sums.proofs.Numbers.{product-cong}
+use Rattle.sums.proofs.Bounds.{taskSum-bound}
+use Rattle.interference.proofs.Parts.{sumParts-is, counted-parts}
 use Rattle.interference.proofs.task_parts.Statement.{statement}
 use Rattle.interference.proofs.task_parts.Tie as tie
 
-interference-requires : tie.Need-interference-requires
-interference-requires c κs =
-    let h = c .before .before .before .before .before .before .before .pre in
-    ((own-row _ _ _ _ _ _ _ h, all-row _ _ _ _ _ _ _ h, h .linked), c .released .ensures .0)
+module _ (c : tie.After-wide) where
+  abbrev start : tie.Start
+  start = c .before .before .before .before
 
-abbrev start : tie.After-interference → tie.Start
-start c = c .before .before .before .before .before .before .before .before
+  abbrev b : List ℕ
+  b = start .args .board .now
 
--- B
-abbrev count : tie.After-interference → ℕ
-count c = c .before .released .result .accesses + c .interference .result + 1
+  abbrev R : List ℕ
+  R = start .args .times .now
 
-count-is : (c : tie.After-interference) → let a = start c .args in count c ≡ busAccesses (a .board .now) (a .times .now) (a .i)
-unfolding busAccesses
-count-is c = ap₂ (λ (s n : ℕ). s + n + 1) (c .before .released .ensures .0) (c .interference .ensures)
+  abbrev i : ℕ
+  i = start .args .i
 
-few : (c : tie.After-interference) → count c ≤ mostBusAccesses
-few c =
-    let h = start c .pre in
-    le-trans (le-of-eq (count-is c)) (busAccesses-bound _ _ (h .sound) (h .times) _ (h .task))
+  abbrev count : ℕ → ℕ
+  count k = getD (start .args .t6) k 0
 
-abbrev counted : tie.After-work → tie.After-interference
-counted c = c .before .before .before .before .before
+  cycles : c .wide .result ≡ accessCycles b
+  cycles = c .wide .ensures .0 ∙ c .before .access-cycles .ensures .0
 
-refreshes-requires : tie.Need-refreshes-requires
-refreshes-requires c κs =
-    let h = start (counted c) .pre in
-    ((h .sound, h .times, h .task), count-is (counted c))
+  higher : count 0 ≡ higherWork b R i
+  higher = ap (λ (l : List ℕ). getD l 0 0) (start .pre .5)
 
-mul-refresh : tie.Need-mul-t19
-mul-refresh c =
-    let s = start (counted (c .before)) in
-    let h = s .pre in
-    let most = refreshes-bound _ _ (h .sound) (h .times) _ (h .task) (refresh (s .args .board .now)) in
-    product-fits mostBusAccesses longestAccess (le-trans (le-of-eq (c .refreshes .ensures)) most) (omega arith) (lit< tt)
+  core : count 1 * c .wide .result ≡ ownAccesses b R i * accessCycles b
+  core = product-cong (ap (λ (l : List ℕ). getD l 1 0) (start .pre .5)) cycles
 
-returns : tie.Need-returns
-returns c =
-    let p = counted (c .before) in
-    let r = c .before .before in
-    let d = r .before .before .wide .ensures .0 ∙ r .before .before .before .access-cycles .ensures .0 in
-    let dr = r .wide2 .ensures .0 ∙ r .before .refresh-cycles .ensures .0 in
-    let a = start p .args in
-    sumParts-is (a .board .now) (a .times .now) (a .i) (c .before .work .ensures .0) (p .before .released .ensures .1)
-    (product-cong (p .before .released .ensures .0) d) (product-cong (p .interference .ensures) d) d (product-cong (c .refreshes .ensures) dr)
+  others : count 2 * c .wide .result ≡ interference b R i (bus b) * accessCycles b
+  others = product-cong (ap (λ (l : List ℕ). getD l 2 0) (start .pre .5)) cycles
+
+  fits : taskSum b R i < 2 ^ 64
+  fits = taskSum-bound b R (start .pre .0) (start .pre .1) i (start .pre .2)
 
 pub task-parts-spec : {M : Type 1} → statement M
 task-parts-spec =
     tie.close
-    (tie.spec (λ c κs. search needs) interference-requires (λ c. omega (arith, few c)) (λ c. omega (arith, few c))
-    (λ c κs. search needs) (λ c κs. search needs) (λ c κs. search needs) (λ c κs. search needs) (λ c κs. search needs)
-    (λ c. product-fits mostBusAccesses longestAccess (omega (arith, few (counted c))) (omega arith) (lit< tt))
-    (λ c. product-fits mostBusAccesses longestAccess (omega (arith, few (counted c))) (omega arith) (lit< tt))
-    refreshes-requires mul-refresh returns)
+    (tie.spec
+    (λ c κs. search needs)
+    (λ c κs. search needs)
+    (λ c. search needs)
+    (λ c. search needs)
+    (λ c. omega (arith, core c, counted-parts (b c) (R c) (i c), fits c))
+    (λ c. search needs)
+    (λ c. omega (arith, others c, counted-parts (b c) (R c) (i c), fits c))
+    (λ c. omega (arith, start c .pre .3, higher c, counted-parts (b c) (R c) (i c), fits c))
+    (λ c. omega (arith, start c .pre .3, higher c, core c, counted-parts (b c) (R c) (i c), fits c))
+    (λ c. omega (arith, start c .pre .3, higher c, core c, others c, counted-parts (b c) (R c) (i c), fits c))
+    (λ c. omega (arith, start c .pre .3, higher c, core c, others c, cycles c, counted-parts (b c) (R c) (i c), fits c))
+    (λ c. omega (arith, start c .pre .3, start c .pre .4, higher c, core c, others c, cycles c, counted-parts (b c) (R c) (i c)))
+    (λ c. sumParts-is (b c) (R c) (i c) (start c .pre .3) (higher c) (core c) (others c) (cycles c)
+    (omega (arith, start c .pre .3, start c .pre .4, higher c, core c, others c, cycles c, counted-parts (b c) (R c) (i c)))))
