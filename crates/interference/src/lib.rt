@@ -49,12 +49,14 @@ pub fn task_sum(
     let core = released(board, links, pd, own, times, i);
     let s = core.accesses;
     let higher = core.work;
+    *counts = [higher, s, 0];
+    let busy = work(board, pd, i) + higher;
     let others = interference(board, links, own, all, times, i, s);
-    *counts = [higher, s, others];
+    counts[2] = others;
     let count = s + others + 1;
     let d = wide(access_cycles(board));
     let dr = wide(refresh_cycles(board));
-    work(board, pd, i) + higher + count * d + refreshes(board, times, i, count) * dr
+    busy + count * d + refreshes(board, times, i, count) * dr
 }
 
 // The parts of Sum_i at these times, from PD_i, the sum, and what it counted: the refreshes are what is left of it.

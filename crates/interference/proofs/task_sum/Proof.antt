@@ -16,91 +16,106 @@ use Rattle.sums.proofs.Bounds.{busAccesses-bound, refreshes-bound, taskSum-boun
 use Rattle.interference.proofs.task_sum.Statement.{statement}
 use Rattle.interference.proofs.task_sum.Tie as tie
 
-interference-requires : tie.Need-interference-requires
-interference-requires c κs =
-    let h = c .before .before .before .before .before .before .before .pre in
-    ((own-row _ _ _ _ _ _ _ h, all-row _ _ _ _ _ _ _ h, h .linked), c .released .ensures .0)
-
-module _ (c : tie.After-interference) where
-  abbrev start : tie.Start
-  start = c .before .before .before .before .before .before .before .before
-
-  -- B
-  abbrev count : ℕ
-  count = c .before .released .result .accesses + c .interference .result + 1
-
-  count-is : count ≡ busAccesses (start .args .board .now) (start .args .times .now) (start .args .i)
-  unfolding busAccesses
-  count-is = ap₂ (λ (s n : ℕ). s + n + 1) (c .before .released .ensures .0) (c .interference .ensures)
-
-  few : count ≤ mostBusAccesses
-  few = le-trans (le-of-eq count-is) (busAccesses-bound _ _ (start .pre .sound) (start .pre .times) _ (start .pre .task))
-
 module _ (c : tie.After-work) where
-  abbrev found : tie.After-interference
-  found = c .before .before .before .before .before .before
+  abbrev start : tie.Start
+  start = c .before .before .before .before .before .before .before .before .before
+
+  abbrev own : tie.After-released
+  own = c .before .before
 
   -- the addends so far are those of the sum, which is below 2^64
-  work-is : c .work .result + found .before .released .result .work ≡ taskPD (start found .args .board .now) (start found .args .i) + higherWork (start found .args .board .now) (start found .args .times .now) (start found .args .i)
-  work-is = ap₂ (λ (w h : ℕ). w + h) (c .work .ensures .0) (found .before .released .ensures .1)
+  work-is : c .work .result + own .released .result .work
+      ≡ taskPD (start .args .board .now) (start .args .i) + higherWork (start .args .board .now) (start .args .times .now) (start .args .i)
+  work-is = ap₂ (λ (w h : ℕ). w + h) (c .work .ensures .0) (own .released .ensures .1)
 
-  accesses-is : count found * c .before .before .before .wide .result
-      ≡ busAccesses (start found .args .board .now) (start found .args .times .now) (start found .args .i) * accessCycles (start found .args .board .now)
-  accesses-is = product-cong (count-is found) (c .before .before .before .wide .ensures .0 ∙ c .before .before .before .before .access-cycles .ensures .0)
+  fits : taskSum (start .args .board .now) (start .args .times .now) (start .args .i) < 2 ^ 64
+  fits = taskSum-bound _ _ (start .pre .sound) (start .pre .times) _ (start .pre .task)
 
-  fits : taskSum (start found .args .board .now) (start found .args .times .now) (start found .args .i) < 2 ^ 64
-  fits = taskSum-bound _ _ (start found .pre .sound) (start found .pre .times) _ (start found .pre .task)
-
-  early : c .work .result + found .before .released .result .work + count found * c .before .before .before .wide .result < 2 ^ 64
+  work-fits : c .work .result + own .released .result .work < 2 ^ 64
   unfolding taskSum
-  early = omega (arith, work-is, accesses-is, fits)
+  work-fits = omega (arith, work-is, fits)
+
+interference-requires : tie.Need-interference-requires
+interference-requires c κs =
+    let h = start c .pre in
+    ((own-row _ _ _ _ _ _ _ h, all-row _ _ _ _ _ _ _ h, h .linked), own c .released .ensures .0)
+
+module _ (c : tie.After-interference) where
+  -- B
+  abbrev count : ℕ
+  count = own (c .before) .released .result .accesses + c .interference .result + 1
+
+  count-is : count ≡ busAccesses (start (c .before) .args .board .now) (start (c .before) .args .times .now) (start (c .before) .args .i)
+  unfolding busAccesses
+  count-is = ap₂ (λ (s n : ℕ). s + n + 1) (own (c .before) .released .ensures .0) (c .interference .ensures)
+
+  few : count ≤ mostBusAccesses
+  few =
+      let s = start (c .before) in
+      le-trans (le-of-eq count-is) (busAccesses-bound _ _ (s .pre .sound) (s .pre .times) _ (s .pre .task))
+
+module _ (c : tie.After-wide2) where
+  abbrev found : tie.After-interference
+  found = c .before .before .before .before
+
+  abbrev first : tie.Start
+  first = start (found .before)
+
+  accesses-is : count found * c .before .before .wide .result
+      ≡ busAccesses (first .args .board .now) (first .args .times .now) (first .args .i) * accessCycles (first .args .board .now)
+  accesses-is = product-cong (count-is found) (c .before .before .wide .ensures .0 ∙ c .before .before .before .access-cycles .ensures .0)
+
+  early : found .before .work .result + own (found .before) .released .result .work + count found * c .before .before .wide .result < 2 ^ 64
+  unfolding taskSum
+  early = omega (arith, work-is (found .before), accesses-is, fits (found .before))
 
 refreshes-requires : tie.Need-refreshes-requires
 refreshes-requires c κs =
-    let h = start (found c) .pre in
+    let h = first c .pre in
     ((h .sound, h .times, h .task), count-is (found c))
 
 module _ (c : tie.After-refreshes) where
   most : c .refreshes .result ≤ mostBusAccesses
   most =
-      let s = start (found (c .before)) in
+      let s = first (c .before) in
       let h = s .pre in
       le-trans (le-of-eq (c .refreshes .ensures)) (refreshes-bound _ _ (h .sound) (h .times) _ (h .task) (refresh (s .args .board .now)))
 
-  whole : c .before .work .result + found (c .before) .before .released .result .work + count (found (c .before)) * c .before .before .before .before .wide .result
-      + c .refreshes .result * c .before .before .wide2 .result
-      ≡ taskSum (start (found (c .before)) .args .board .now) (start (found (c .before)) .args .times .now) (start (found (c .before)) .args .i)
+  whole : found (c .before) .before .work .result + own (found (c .before) .before) .released .result .work + count (found (c .before)) * c .before .before .before .wide .result
+      + c .refreshes .result * c .before .wide2 .result
+      ≡ taskSum (first (c .before) .args .board .now) (first (c .before) .args .times .now) (first (c .before) .args .i)
   unfolding taskSum
   whole =
       omega (
         arith,
-        work-is (c .before),
+        work-is (found (c .before) .before),
         accesses-is (c .before),
-        product-cong (c .refreshes .ensures) (c .before .before .wide2 .ensures .0 ∙ c .before .before .before .refresh-cycles .ensures .0),
+        product-cong (c .refreshes .ensures) (c .before .wide2 .ensures .0 ∙ c .before .before .refresh-cycles .ensures .0),
       )
 
 returns : tie.Need-returns
 returns c =
     let p = found (c .before) in
-    (whole c, simp (p .before .released .ensures .1, p .before .released .ensures .0, p .interference .ensures))
+    (whole c, simp (own (p .before) .released .ensures .1, own (p .before) .released .ensures .0, p .interference .ensures))
 
 pub task-sum-spec : {M : Type 1} → statement M
 task-sum-spec =
     tie.close
     (tie.spec
     (λ c κs. search needs)
+    (λ c κs. search needs)
+    (λ c. omega (arith, work-fits c))
     interference-requires
-    (λ c. omega (arith, few (c .before)))
-    (λ c. omega (arith, few (c .before)))
+    (λ c. search needs)
+    (λ c. omega (arith, few c))
+    (λ c. omega (arith, few c))
     (λ c κs. search needs)
     (λ c κs. search needs)
     (λ c κs. search needs)
     (λ c κs. search needs)
-    (λ c κs. search needs)
-    (λ c. omega (arith, early c))
     (λ c. product-fits mostBusAccesses longestAccess (few (found c)) (omega arith) (lit< tt))
     (λ c. omega (arith, early c))
     refreshes-requires
     (λ c. product-fits mostBusAccesses longestAccess (most c) (omega arith) (lit< tt))
-    (λ c. omega (arith, whole c, fits (c .before)))
+    (λ c. omega (arith, whole c, fits (found (c .before) .before)))
     returns)
