@@ -1,4 +1,4 @@
-//! Boards for the two commands: random ones of every kind, extreme ones, damaged ones.
+//! Boards for the commands: random ones of every kind, extreme ones, damaged ones.
 use crate::RULES;
 use oracle::board::{MAX_PERIOD, MOST_PUT_OFF};
 use oracle::generate::*;

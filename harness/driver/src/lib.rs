@@ -1,4 +1,4 @@
-//! A safe wrapper over the static library of the crate `capi`, and what the two commands share.
+//! A safe wrapper over the static library of the crate `capi`, and what the commands share.
 pub mod arguments;
 pub mod boards;
 pub mod library;

@@ -1,4 +1,4 @@
-//! Lists of task numbers for the two commands: orders of the n tasks of a board, and lists that are none.
+//! Lists of task numbers for the commands: orders of the n tasks of a board, and lists that are none.
 use oracle::generate::*;
 
 pub fn ascending(n: usize) -> Vec<u32> {

@@ -28,7 +28,7 @@ extern "C" {
 }
 
 /// The microseconds that this thread has run.
-fn now() -> f64 {
+pub fn now() -> f64 {
     let mut at = Timespec { seconds: 0, nanoseconds: 0 };
     // it writes the one struct, which is ours
     assert_eq!(unsafe { clock_gettime(CLOCK_THREAD_CPUTIME_ID, &mut at) }, 0);
