@@ -15,6 +15,13 @@ pub fn words_of(bytes: &[u8]) -> Option<Vec<u32>> {
     Some(bytes.chunks_exact(4).map(|c| u32::from_le_bytes([c[0], c[1], c[2], c[3]])).collect())
 }
 
+/// A board that climbs, with the refreshes of the largest boards, eight of them put off.
+pub fn climbing_put_off(bus: u32) -> Vec<u32> {
+    let mut w = climbing_board(64, 8, 20_000, bus, 1_000_000);
+    w[8..12].copy_from_slice(&REFRESH_OF_LARGEST);
+    with_put_off(&w, MOST_PUT_OFF)
+}
+
 /// A random board; the number picks bus, memory and refresh form in turn.
 pub fn random(r: &mut Rng, number: usize) -> Vec<u32> {
     let (bus, memory, refresh) = (number as u32 % 5, number as u32 / 5 % 4, number as u32 / 20 % 3);

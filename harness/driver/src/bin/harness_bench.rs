@@ -3,6 +3,7 @@
 //! none. With TEXT, only the lines that have it in their names.
 //! Each line has the product's time, then each other's with the ratio; best of the rounds, taken in turn, buffers not cleared in between. A pass, and figures
 //! with overheads, are differences of two runs: the middle one of all rounds, and where that is not well above its spread, that it is too short to tell.
+use driver::boards::climbing_put_off;
 use driver::library::{self, RECORD};
 use driver::timing::{best, differences, Run, Time};
 use driver::{orders, RULES};
@@ -224,13 +225,6 @@ fn two_caches(bench: &Bench) {
     for ways in [2, 4, 8] {
         whole(bench, &format!("  largest, bus 2, memory 3, ways {ways}"), &largest_edge_in_two_caches(77, 2, 8, ways));
     }
-}
-
-/// A board that climbs, with the refreshes of the largest boards, eight of them put off.
-fn climbing_put_off(bus: u32) -> Vec<u32> {
-    let mut w = climbing_board(64, 8, 20_000, bus, 1_000_000);
-    w[8..12].copy_from_slice(&REFRESH_OF_LARGEST);
-    with_put_off(&w, MOST_PUT_OFF)
 }
 
 /// Passes on boards with something, for each bus one that climbs and a largest one of some memory, one pass and all, beside the product's own with none, which

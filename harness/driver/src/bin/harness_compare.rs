@@ -4,6 +4,7 @@
 //! rounds, of each fifth of them, of which the middle, the least and the largest are printed. A line is slower where even the least is above 1.02, and faster
 //! where even the largest is below 0.98. A pass, and figures with overheads, are the differences of two times of a round; where one of the numbers is not above
 //! 0, they are too short to tell.
+use driver::boards::climbing_put_off;
 use driver::library::RECORD;
 use driver::orders;
 use driver::timing::now;
@@ -194,7 +195,7 @@ fn main() {
     for bus in 0..5 {
         let climbing = climbing_board(64, 8, 20_000, bus, 1_000_000);
         passes(c, "", bus, &climbing, &largest_edge(77, 0, bus, 8, 0));
-        passes(c, "put off, ", bus, &with_put_off(&climbing_refreshed(bus), MOST_PUT_OFF), &largest_edge_put_off(77, 0, bus, 8, MOST_PUT_OFF));
+        passes(c, "put off, ", bus, &climbing_put_off(bus), &largest_edge_put_off(77, 0, bus, 8, MOST_PUT_OFF));
         passes(c, "jitter, ", bus, &with_jitter(&climbing, eighth), &largest_edge_with_jitter(77, 0, bus, 8, eighth));
     }
     println!("checks, and figures with the table of overheads, of 64 tasks");
@@ -224,11 +225,4 @@ fn main() {
         c.whole(&format!("  Analyse, bus {bus}, memory 3"), &largest_edge_in_two_caches(77, bus, 8, 1), Call::Analyse);
     }
     c.whole("  Analyse, two tasks, long times", &long_times_board(10_000, 26_000), Call::Analyse);
-}
-
-/// A board that climbs, with the refreshes of the largest boards.
-fn climbing_refreshed(bus: u32) -> Vec<u32> {
-    let mut board = climbing_board(64, 8, 20_000, bus, 1_000_000);
-    board[8..12].copy_from_slice(&REFRESH_OF_LARGEST);
-    board
 }
