@@ -1,4 +1,6 @@
 // The page of an answer, put into a lent buffer.
+#![tactic(auto)]
+
 ghost use Rattle.std.specs.Prelude.{◌+◌, ◌*◌, ◌≤◌, ◌<◌, length};
 ghost use Rattle.text.specs.Buffer.{Put};
 ghost use Rattle.answer_page.specs.AnswerPage.{task_line, task_lines, answer_page};

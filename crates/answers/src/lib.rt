@@ -1,4 +1,6 @@
 // What the calls answer.
+#![tactic(auto)]
+
 pub mod taken;
 
 use board::MOST_TASKS;

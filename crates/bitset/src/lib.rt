@@ -1,5 +1,7 @@
 // Sets of numbers below 512, as the bits of eight 64-bit words: s is bit s mod 64 (bit 0 lowest) of word floor(s/64).
 // The contracts hold for any words.
+#![tactic(auto)]
+
 pub mod records;
 pub mod word;
 

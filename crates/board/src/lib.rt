@@ -1,4 +1,6 @@
 // A board's layout: its fields, and the numbers that bound them.
+#![tactic(auto)]
+
 pub mod fields;
 pub mod work;
 

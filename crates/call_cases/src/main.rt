@@ -1,6 +1,8 @@
 // Reads lines from standard input and answers the calls on them. A line that begins with `b` has a board's words; any other has the number of a call and
 // the words that the call takes beside the board, which is that of the last line with one. The input is made of blocks of 65,536 bytes, at most 64, each
 // with whole lines of which the first has a board; a line of dots fills a block up.
+#![tactic(auto)]
+
 mod analyse;
 mod board_page;
 mod lent;

@@ -1,5 +1,7 @@
 // The public calls: figures, overhead, weigh, analyse, its sibling analyse_in_order, and make_up. The types of their answers and of the table are passed on, so that a
 // caller imports them from here.
+#![tactic(auto)]
+
 ghost use Rattle.std.specs.Prelude.{◌≡◌, length};
 ghost use Rattle.board.specs.Layout.{most_tasks};
 ghost use Rattle.checks.specs.CallRefusals.{figures_refusal, analyse_refusal, in_order_refusal, make_up_refusal};

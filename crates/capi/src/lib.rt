@@ -1,5 +1,7 @@
 // The calls for C and Rust, on numbers and word slices; include/zuzgravel.h declares them. Each takes every input, returns a code, and
 // puts the two numbers of its answer into the two words of `answer`, also where it refuses. In C the array is one pointer, with no length.
+#![tactic(auto)]
+
 ghost use Rattle.std.specs.Prelude.{◌≡◌, length};
 ghost use Rattle.answers.specs.declared.Answer.{Answer};
 ghost use Rattle.answers.specs.declared.MadeUp.{MadeUp};

@@ -1,4 +1,6 @@
 // The accesses of the tasks off a core: task by task, core by core, and capped by slots. A sum that counts only up to a cap stops there.
+#![tactic(auto)]
+
 pub mod cores;
 pub mod others;
 pub mod slots;

@@ -1,4 +1,6 @@
 // The checks that each call makes of what it takes: the rows of its board, and then its own in the table's order.
+#![tactic(auto)]
+
 pub mod order;
 pub mod rows;
 

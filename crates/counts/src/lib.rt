@@ -1,5 +1,7 @@
 // A small number for each set of one cache or of two, kept bit by bit in planes of four words a cache: the sum over given sets, and what a mark does to
 // the numbers.
+#![tactic(auto)]
+
 ghost use Rattle.std.specs.Prelude.{◌≡◌, ◌&&◌, List, ℕ, ◌+◌, ◌*◌, ◌/◌, ◌%◌, ◌≤◌, ◌<◌, eqb, length};
 ghost use Rattle.folds.specs.Folds.{count_to};
 ghost use Rattle.bitset.specs.Bits.{member, word_of};

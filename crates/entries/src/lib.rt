@@ -1,4 +1,6 @@
 // The blocks held in the sets of a cache, as words of a lent array, and the sizes of what the scan of a trace works in.
+#![tactic(auto)]
+
 ghost use Rattle.std.specs.Prelude.{◌≡◌, ◌+◌, ◌*◌, ◌≤◌, ◌<◌, length};
 ghost use Rattle.entries.specs.Entries.{found, shifted};
 

@@ -1,4 +1,6 @@
 // The figures of a task, and the pre-emption overhead.
+#![tactic(auto)]
+
 pub mod higher;
 pub mod row;
 

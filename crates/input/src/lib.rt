@@ -1,4 +1,6 @@
 // A program's input: bytes as little-endian words, and row 15 of the refusal table; and the number in its argument.
+#![tactic(auto)]
+
 pub mod argument;
 
 ghost use Rattle.std.specs.Prelude.{◌≡◌, ◌+◌, ◌/◌, ◌≤◌, ◌<◌, length, take};

@@ -1,4 +1,6 @@
 // The tasks of each core linked to one another, so that a sum over one core meets no task of another.
+#![tactic(auto)]
+
 ghost use Rattle.std.specs.Prelude.{◌≡◌, ◌+◌, ◌-◌, ◌<◌};
 ghost use Rattle.folds.specs.Folds.{last_to};
 ghost use Rattle.board.specs.Layout as at;

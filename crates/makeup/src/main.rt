@@ -1,4 +1,6 @@
 // Answers how the time of one task is made up: the board is on standard input, the task's number is the argument, and the page goes to standard output.
+#![tactic(auto)]
+
 use libc::{STDIN_FILENO, STDOUT_FILENO};
 
 fn main() {

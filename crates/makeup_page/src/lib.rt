@@ -1,4 +1,6 @@
 // The program's input as words and its argument as a task's number, and the page of how that task's time is made up as bytes.
+#![tactic(auto)]
+
 ghost use Rattle.std.specs.Prelude.{◌≡◌, ◌≤◌, length, take, drop};
 ghost use Rattle.io.specs.Counts.{IsPrefixLen};
 ghost use Rattle.refusals.specs.declared.Verdict.TheVariants.{Passed};

@@ -1,4 +1,6 @@
 // The scan of a trace under a cache or two: MD, the places that it touches, and a mark for each of its positions.
+#![tactic(auto)]
+
 mod accesses;
 mod loads;
 

@@ -1,4 +1,6 @@
 // One pass over the times of a prepared scratch: of all tasks together, or (`visits`) in a chosen order.
+#![tactic(auto)]
+
 pub mod due;
 pub mod visits;
 

@@ -1,4 +1,6 @@
 // The page of how a time is made up, put into a lent buffer.
+#![tactic(auto)]
+
 ghost use Rattle.std.specs.Prelude.{[], ◌∷◌, ◌++◌, ◌+◌, ◌-◌, ◌≤◌, length};
 ghost use Rattle.folds.specs.Folds.{join_to};
 ghost use Rattle.interference.specs.Parts.{listed};

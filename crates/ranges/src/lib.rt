@@ -1,4 +1,6 @@
 // The range of each word of a board.
+#![tactic(auto)]
+
 ghost use Rattle.std.specs.Prelude.{◌≡◌, ◌≤◌, ◌<◌, length};
 ghost use Rattle.board.specs.Layout.{is_ways};
 ghost use Rattle.ranges.specs.Ranges.{header_ok, task_ok, work_ok, test_if, range_if, sets_or_held};

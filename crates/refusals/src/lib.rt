@@ -1,4 +1,6 @@
 // The checks that a board has to pass: rows 1 to 9 of the refusal table.
+#![tactic(auto)]
+
 pub mod search;
 
 ghost use Rattle.std.specs.Prelude.{◌≡◌, ◌≤◌, length};

@@ -1,4 +1,6 @@
 // One trace of a task: PD, MD and ECB, and what its useful blocks add to a row of overheads.
+#![tactic(auto)]
+
 mod points;
 
 ghost use Rattle.std.specs.Prelude.{◌≡◌, true, ◌≤◌, length};

@@ -1,4 +1,6 @@
 // The word scratch: the figures of every task, laid out for the passes, and a task's sum and its parts from them.
+#![tactic(auto)]
+
 ghost use Rattle.std.specs.Prelude.{◌≡◌, ◌≤◌, ◌<◌, length};
 ghost use Rattle.figures.specs.Survey.{Surveyed};
 ghost use Rattle.sums.specs.Sums.{task_sum};

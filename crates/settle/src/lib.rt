@@ -1,5 +1,7 @@
 // What every call does that needs settled times, by the verdict of its checks: the figures, the passes, and the buffers as Analyse leaves them. What the call
 // itself answers is read from the answer and the scratch afterwards.
+#![tactic(auto)]
+
 ghost use Rattle.std.specs.Prelude.{◌≡◌, ◌≤◌, length};
 ghost use Rattle.board.specs.Layout.{tasks};
 ghost use Rattle.refusals.specs.declared.Verdict.TheVariants.{Passed};

@@ -1,4 +1,6 @@
 // The passes of a board, over a prepared scratch: of all tasks together, or (`order`) in a chosen order.
+#![tactic(auto)]
+
 pub mod late;
 pub mod order;
 

@@ -1,4 +1,6 @@
 // One walk over all tasks and their traces, for PD, MD, ECB and the overheads.
+#![tactic(auto)]
+
 ghost use Rattle.std.specs.Prelude.{◌≡◌, true, ℕ, ◌+◌, ◌*◌, ◌<◌, ◌≤◌, length};
 ghost use Rattle.bitset.specs.Bits.{words_of};
 ghost use Rattle.board.specs.Layout.{tasks, cache_count, scratch_words};

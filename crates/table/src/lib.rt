@@ -1,4 +1,6 @@
 // The lent table of figures, a slice of records.
+#![tactic(auto)]
+
 ghost use Rattle.std.specs.Prelude.{◌≡◌, ◌≤◌, length};
 ghost use Rattle.folds.specs.Folds.{fill_to};
 ghost use Rattle.figures.specs.Figures.{figure_of};

@@ -1,4 +1,6 @@
 // Fields put into a lent buffer. Each function puts bytes at a place and answers the place after them.
+#![tactic(auto)]
+
 pub mod lines;
 
 ghost use Rattle.std.specs.Prelude.{◌≡◌, [], ◌∷◌, ◌++◌, ◌+◌, ◌≤◌, ◌<◌, length};

@@ -1,4 +1,6 @@
 // Answers the board on standard input with its page on standard output.
+#![tactic(auto)]
+
 use libc::{STDIN_FILENO, STDOUT_FILENO};
 
 fn main() {

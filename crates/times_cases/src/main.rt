@@ -1,4 +1,6 @@
 // Answers the board in each file that an argument names, with the code of the program `times`.
+#![tactic(auto)]
+
 use libc::STDOUT_FILENO;
 
 // Answers one file, and says whether there was an argument.

@@ -1,4 +1,6 @@
 // One trace of a task: its instructions, its loads, and what they find in memory.
+#![tactic(auto)]
+
 pub mod cache;
 pub mod cursor;
 pub mod demand;

@@ -1,5 +1,7 @@
 // All that each call does but for its table, which has room for so many records: its checks, what it does by their verdict, and its last step. Counted are the
 // records to fill, from the words and the sets: none where it is refused.
+#![tactic(auto)]
+
 mod reasons;
 
 ghost use Rattle.std.specs.Prelude.{◌≡◌, ◌≤◌, length};

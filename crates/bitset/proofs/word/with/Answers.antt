@@ -1,5 +1,4 @@
 -- `bitset::word::with` meets its contract.
--- Assumes nothing.
 use mathlib.Core.Bool.{Bool, ◌||◌}
 use mathlib.Core.Path.{ap, ◌∙◌}
 use native.Mathlib.Omega.{arith}
@@ -8,15 +7,10 @@ use lib.Dec.{eqb}
 use borrow.Author.Rules.{rules}
 use Rattle.bitset.specs.Bits.{bit}
 use Rattle.bitset.proofs.Words.{bit-or, one_at, bit-one_at, word_of-is}
-use Rattle.bitset.proofs.word.with.Statement.{statement}
-use Rattle.bitset.proofs.word.with.Tie as tie
+use Rattle.bitset.proofs.word.with.Goals as goal
 
-returns : tie.Need-returns
-returns c =
-    let w = c.args.w in
+pub returns : goal.returns
+returns c = let w = c.args.w in
     let k = c.args.k in
     word_of-is 64 _ (λ t. eqb t k || bit w t) (or_lt 64 (one_at k) w (omega arith) c.ranges.w.fits)
     (λ j h. bit-or (one_at k) w j ∙ ap (λ (t : Bool). t || bit w j) (bit-one_at k j c.requires))
-
-pub with-spec : {M : Type 1} → statement M
-with-spec = tie.close (tie.spec (λ c. search rules) returns)
