@@ -79,7 +79,7 @@ module _ (b : List ℕ) (board : Board b) where
     trace_count = board.task_traces;
     jitter = λ k h. omega (arith, punctual k h);
     trace_sum = board.trace_sum;
-    trace_length = board.trace_length;
+    trace_length = board.trace_words;
     length_sum = board.length_sum;
     fetch = board.fetch_word;
     kind = λ p h. (board.work_word p h).0;
@@ -125,7 +125,7 @@ module _ (b : List ℕ) (s : Sound b) (few : memory b ≤ 2) (no-ways : word b 1
     task_traces = s.trace_count;
     task_spare = no-jitter;
     trace_sum = s.trace_sum;
-    trace_length = s.trace_length;
+    trace_words = s.trace_length;
     length_sum = s.length_sum;
     fetch_word = s.fetch;
     work_word = λ p h. (s.kind p h, s.execute p h, s.data_block p h);

@@ -44,7 +44,7 @@ pub record Board (b : List ℕ) : Type 0 where
   pub task_traces : (k : ℕ) → k < tasks b → Within 1 8 (trace_count b k)
   pub task_spare : (k : ℕ) → k < tasks b → word b (20 + 5 * k + 4) ≡ 0
   pub trace_sum : sum_to (trace_count b) (tasks b) ≡ traces b
-  pub trace_length : (r : ℕ) → r < traces b → Within 1 1024 (trace_length b r)
+  pub trace_words : (r : ℕ) → r < traces b → Within 1 1024 (trace_length b r)
   pub length_sum : sum_to (trace_length b) (traces b) ≡ instructions b
   pub fetch_word : (p : ℕ) → p < instructions b → word b (fetches_at b + p) < 32768
   pub work_word : (p : ℕ) → p < instructions b → Work (word b (works_at b + p))

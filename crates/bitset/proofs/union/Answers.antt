@@ -6,4 +6,4 @@ use Rattle.bitset.proofs.union.Goals as goal
 
 pub returns : goal.returns
 unfolding tabulate
-returns c = union-words 8 c.args.t1 c.args.t2 (λ k. search rules) (λ k. search rules)
+returns c = union-words 8 c.args.a c.args.b (λ k. search rules) (λ k. search rules)

@@ -16,4 +16,4 @@ shape_of-buffer c = c.write_four-2.ensures.size ∙ c.write_four.ensures.size
 pub returns : goal.returns
 unfolding tabulate
 returns c = let a = c.args in
-    stored-eight (λ k. get_or a.t3 k 0) a.q c.write_four.ensures c.write_four-2.ensures
+    stored-eight (λ k. get_or a.set k 0) a.q c.write_four.ensures c.write_four-2.ensures

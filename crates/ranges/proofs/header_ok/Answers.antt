@@ -1,0 +1,60 @@
+-- `ranges::header_ok` meets its contract: in each arm the word's index is known, and its entry of `header_ranges` is the arm's test.
+use borrow.Author.Rules.{rules}
+use mathlib.Core.Path.{◌∙◌}
+use Rattle.ranges.specs.Ranges.{header_ranges}
+use Rattle.ranges.proofs.Rows.{header_row, header_spare, avoids}
+use Rattle.ranges.proofs.header_ok.Goals as goal
+
+pub returns-in-0 : goal.returns-in-0
+returns-in-0 c = c.within.ensures ∙ header_row _ c.in-0.keys1
+
+pub returns-in-1 : goal.returns-in-1
+returns-in-1 c = c.within-in-1.ensures ∙ header_row _ c.in-1.keys2
+
+pub returns-in-2 : goal.returns-in-2
+returns-in-2 c = c.within-in-2.ensures ∙ header_row _ c.in-2.keys3
+
+pub returns-in-3 : goal.returns-in-3
+returns-in-3 c = c.within-in-3.ensures ∙ header_row _ c.in-3.keys4
+
+pub returns-in-4 : goal.returns-in-4
+returns-in-4 c = c.within-in-4.ensures ∙ header_row _ c.in-4.keys5
+
+pub returns-in-5 : goal.returns-in-5
+returns-in-5 c = c.within-in-5.ensures ∙ header_row _ c.in-5.keys6
+
+pub returns-in-6 : goal.returns-in-6
+returns-in-6 c = c.range_if.ensures ∙ header_row _ c.in-6.keys7
+
+pub returns-in-7 : goal.returns-in-7
+returns-in-7 c = c.within-in-7.ensures ∙ header_row _ c.in-7.keys8
+
+pub returns-in-8 : goal.returns-in-8
+returns-in-8 c = c.within-in-8.ensures ∙ header_row _ c.in-8.keys9
+
+pub returns-in-9 : goal.returns-in-9
+returns-in-9 c = c.range_if-in-9.ensures ∙ header_row _ c.in-9.keys10
+
+pub returns-in-10 : goal.returns-in-10
+returns-in-10 c = c.range_if-in-10.ensures ∙ header_row _ c.in-10.keys11
+
+pub returns-in-11 : goal.returns-in-11
+returns-in-11 c = c.range_if-in-11.ensures ∙ header_row _ c.in-11.keys12
+
+pub returns-in-12 : goal.returns-in-12
+returns-in-12 c = header_row _ c.in-12.keys13
+
+pub returns-in-13 : goal.returns-in-13
+returns-in-13 c = c.sets_or_held.ensures ∙ header_row _ c.in-13.keys14
+
+pub returns-in-14 : goal.returns-in-14
+returns-in-14 c = c.sets_or_held-in-14.ensures ∙ header_row _ c.in-14.keys15
+
+pub returns-in-15 : goal.returns-in-15
+returns-in-15 c = c.ways_if.ensures ∙ header_row _ c.in-15.keys16
+
+pub returns-in-16 : goal.returns-in-16
+returns-in-16 c = c.range_if-in-16.ensures ∙ header_row _ c.in-16.keys17
+
+pub returns-in_default : goal.returns-in_default
+returns-in_default c = header_spare _ _ (avoids _ 17 c.in_default.rest)
