@@ -68,7 +68,7 @@ fn cores_sum(
 }
 
 // Accesses of the cores before one core, and of the cores after it.
-#[derive(Drop)]
+#[derive(Clone, Copy)]
 pub struct SideSums {
     pub before: u64,
     pub after: u64,

@@ -10,7 +10,7 @@ use folds::index;
 use refusals::{Verdict, check_that, or_else};
 
 // What a board's own rows say, and its tasks: 0 where one of them refuses.
-#[derive(Drop)]
+#[derive(Clone, Copy)]
 pub struct Checked {
     pub verdict: Verdict,
     pub tasks: usize,

@@ -16,7 +16,7 @@ use board::{MOST_TASKS, fields};
 pub const ECB_WORDS: usize = SET_WORDS * MOST_TASKS;
 
 // One record of the figures table: a task's core, T, D, PD, MD, and an ECB for each cache, the code's first.
-#[derive(Drop)]
+#[derive(Clone, Copy)]
 pub struct Figure {
     pub core: u32,
     pub period: u32,

@@ -22,7 +22,7 @@ mod bus;
 
 // The parts of a sum, in cycles: PD, the PD of higher tasks, the accesses of its own core, of other cores, and the one under way,
 // and the refreshes.
-#[derive(Drop)]
+#[derive(Clone, Copy)]
 pub struct SumParts {
     pub own_work: u64,
     pub higher_work: u64,

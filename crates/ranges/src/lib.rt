@@ -10,7 +10,7 @@ ghost use Rattle.ranges.specs.Parts.{word_ok};
 use board::{FIRST_DATA_BLOCK, LONGEST, MOST_PUT_OFF, MOST_REFRESH_ROWS, MOST_SETS, work};
 
 // The parts of a board whose words are tested, in their order.
-#[derive(Drop)]
+#[derive(Clone, Copy)]
 pub enum Part {
     Header,
     Tasks,

@@ -15,7 +15,7 @@ use ranges::Part;
 use search::{all_ok, first_bad, sum_words};
 
 // What a check says: all is well, or the number of the row of the refusal table that refuses, and its place.
-#[derive(Drop)]
+#[derive(Clone, Copy)]
 pub enum Verdict {
     Passed,
     Refused(usize, usize),

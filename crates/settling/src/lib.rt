@@ -16,7 +16,7 @@ use one_pass::due::make_cores;
 use one_pass::{advance, make_pass};
 
 // The passes needed, or that they exceed the limit.
-#[derive(Drop)]
+#[derive(Clone, Copy)]
 pub enum Passes {
     Needed(u32),
     Over,

@@ -85,7 +85,7 @@ pub fn overhead(board: &[u32], i: usize, j: usize) -> u32
 }
 
 // The figures of one task, and the first trace of the next.
-#[derive(Drop)]
+#[derive(Clone, Copy)]
 struct Task {
     pd: u32,
     md: u32,

@@ -14,7 +14,7 @@ use folds::{ceil_div_tested, wide};
 use linked_tasks::above;
 
 // The accesses and the work of some releases.
-#[derive(Drop)]
+#[derive(Clone, Copy)]
 pub struct OwnSums {
     pub accesses: u64,
     pub work: u64,

@@ -9,7 +9,7 @@ use board::{MOST_SETS, fields};
 use folds::{index, wide};
 
 // A cache: the place of its first set, its sets, and 2^24 / sets + 1: a block times this, divided by 2^24, is the block divided by the sets.
-#[derive(Drop)]
+#[derive(Clone, Copy)]
 pub struct Cache {
     pub first: u32,
     pub sets: u32,
@@ -17,7 +17,7 @@ pub struct Cache {
 }
 
 // The caches of a board that has one or two: where the code blocks lie, and where the data blocks do.
-#[derive(Drop)]
+#[derive(Clone, Copy)]
 pub struct Caches {
     pub code: Cache,
     pub data: Cache,

@@ -7,7 +7,7 @@ use board::fields;
 use folds::index;
 
 // A trace: its number among the board's traces, and the place of its first fetch word.
-#[derive(Drop)]
+#[derive(Clone, Copy)]
 pub struct Cursor {
     pub trace: usize,
     pub start: usize,

@@ -26,7 +26,7 @@ pub fn pd(board: &[u32], start: usize, len: usize) -> u32
 }
 
 // PD and MD.
-#[derive(Drop)]
+#[derive(Clone, Copy)]
 pub struct Demand {
     pub pd: u32,
     pub md: u32,

@@ -13,7 +13,7 @@ ghost use Rattle.trace.specs.Places.{trace_at, Lies};
 use folds::index;
 
 // A trace: the board's words, the place of its first fetch word, and its length.
-#[derive(Drop)]
+#[derive(Clone, Copy)]
 pub struct Trace<'a> {
     pub words: &'a [u32],
     pub start: usize,

@@ -15,9 +15,9 @@ use Rattle.trace.specs.contracts.fetch_word as fetch_word
 use Rattle.trace.proofs.fetch_word.Statement as stated
 use Rattle.trace.proofs.fetch_word.Code as code
 
-pub fetch-word-spec : {M : Type 1} → stated.statement M
+pub fetch_word_spec : {M : Type 1} → stated.statement M
 unfolding code.routine tables_of
-fetch-word-spec 𝓤 𝓛 𝓜 𝓡 =
+fetch_word_spec 𝓤 𝓛 𝓜 𝓡 =
     entered 𝓤 𝓛.H (triple_of 𝓛 fetch_word.signature (fetch_word.spec 𝓛 𝓜.mem 𝓡.run))
     (tables 𝓤 𝓛.H 𝓜 𝓡 code.env).C (tables 𝓤 𝓛.H 𝓜 𝓡 code.env).Λ #trace·fetch_word code.function (code.unfolded 𝓤 𝓛.H 𝓜 𝓡)
     (meets fetch_there #trace·fetch 𝓛 𝓜.mem 𝓡.run (tables_of 𝓤 𝓛.H 𝓜 (tables 𝓤 𝓛.H 𝓜 𝓡 code.env))

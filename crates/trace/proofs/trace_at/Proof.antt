@@ -103,9 +103,9 @@ module _ {M : Type 1} {𝓤 : Ura M} (𝓛 : Logic 𝓤) (mem : Memory → SProp
   trace-at-meets = walk_Meets 𝓛 trace-at.ended stayed (Goes-none_slice 𝓛 1 (0 ∷ []) tt (plain (λ _. u32)) yes, (Goes-none 𝓛 1 (λ _. usize) yes (λ κs x f. refl), (Goes-none 𝓛 1 (λ _. usize) yes (λ κs x f. refl), tt)))
       (trace-at.clauses 𝓛 mem run) (WpFn 𝓤 H 𝓣.C 𝓣.Λ code.function) (WpFn-mono 𝓤 H 𝓛.laws 𝓣 code.function) trace-at-walks
 
-pub trace-at-spec : {M : Type 1} → stated.statement M
+pub trace_at_spec : {M : Type 1} → stated.statement M
 unfolding code.routine tables_of
-trace-at-spec 𝓤 𝓛 𝓜 𝓡 =
+trace_at_spec 𝓤 𝓛 𝓜 𝓡 =
     entered 𝓤 𝓛.H (triple_of 𝓛 trace-at.signature (trace-at.spec 𝓛 𝓜.mem 𝓡.run))
     (tables 𝓤 𝓛.H 𝓜 𝓡 code.env).C (tables 𝓤 𝓛.H 𝓜 𝓡 code.env).Λ #trace·trace-at code.function (code.unfolded 𝓤 𝓛.H 𝓜 𝓡)
     (trace-at-meets 𝓛 𝓜.mem 𝓡.run (tables_of 𝓤 𝓛.H 𝓜 (tables 𝓤 𝓛.H 𝓜 𝓡 code.env)))

@@ -12,9 +12,9 @@ use Rattle.trace.specs.contracts.work as work
 use Rattle.trace.proofs.work.Statement as stated
 use Rattle.trace.proofs.work.Code as code
 
-pub work-spec : {M : Type 1} → stated.statement M
+pub work_spec : {M : Type 1} → stated.statement M
 unfolding code.routine tables_of
-work-spec 𝓤 𝓛 𝓜 𝓡 =
+work_spec 𝓤 𝓛 𝓜 𝓡 =
     entered 𝓤 𝓛.H (triple_of 𝓛 work.signature (work.spec 𝓛 𝓜.mem 𝓡.run))
     (tables 𝓤 𝓛.H 𝓜 𝓡 code.env).C (tables 𝓤 𝓛.H 𝓜 𝓡 code.env).Λ #trace·work code.function (code.unfolded 𝓤 𝓛.H 𝓜 𝓡)
     (meets WorkThere work_there work-there #trace·work-at 𝓛 (tables_of 𝓤 𝓛.H 𝓜 (tables 𝓤 𝓛.H 𝓜 𝓡 code.env))

@@ -15,9 +15,9 @@ use Rattle.trace.specs.contracts.work_word as work_word
 use Rattle.trace.proofs.work_word.Statement as stated
 use Rattle.trace.proofs.work_word.Code as code
 
-pub work-word-spec : {M : Type 1} → stated.statement M
+pub work_word_spec : {M : Type 1} → stated.statement M
 unfolding code.routine tables_of
-work-word-spec 𝓤 𝓛 𝓜 𝓡 =
+work_word_spec 𝓤 𝓛 𝓜 𝓡 =
     entered 𝓤 𝓛.H (triple_of 𝓛 work_word.signature (work_word.spec 𝓛 𝓜.mem 𝓡.run))
     (tables 𝓤 𝓛.H 𝓜 𝓡 code.env).C (tables 𝓤 𝓛.H 𝓜 𝓡 code.env).Λ #trace·work_word code.function (code.unfolded 𝓤 𝓛.H 𝓜 𝓡)
     (meets work_there #trace·work 𝓛 𝓜.mem 𝓡.run (tables_of 𝓤 𝓛.H 𝓜 (tables 𝓤 𝓛.H 𝓜 𝓡 code.env))

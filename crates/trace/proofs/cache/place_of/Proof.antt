@@ -52,8 +52,8 @@ returns c =
     let at = c.before.before.before.before in
     (omega (arith, remainder at, at.wide.ensures.0), omega (arith, remainder at, at.wide.ensures.0, low at))
 
-pub place-of-spec : {M : Type 1} → statement M
-place-of-spec =
+pub place_of_spec : {M : Type 1} → statement M
+place_of_spec =
     tie.close
     (tie.spec (λ c κs. search rules) (λ c. omega (arith, product c.before)) (λ c. omega (arith, product c.before)) mul-index sub-index add-index (λ c κs. search rules)
     returns)

@@ -1,0 +1,7 @@
+-- `text::put_byte` meets its contract.
+use borrow.Author.Rules.{rules}
+use Rattle.text.proofs.Buffer.{put_one}
+use Rattle.text.proofs.put_byte.Goals as goal
+
+pub returns : goal.returns
+returns c = put_one c.args.out.now c.args.at c.args.byte c.requires

@@ -1,0 +1,8 @@
+-- `trace::cursor::first` meets its contract.
+use native.Mathlib.Omega.{arith}
+use borrow.Author.Rules.{rules}
+use Rattle.trace.proofs.Starts.{at-begin}
+use Rattle.trace.proofs.cursor.first.Goals as goal
+
+pub returns : goal.returns
+returns c = at-begin _ _ (omega arith)
