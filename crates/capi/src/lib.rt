@@ -1,5 +1,5 @@
-// The calls for C and Rust, on numbers and word slices; include/zuzgravel.h declares them. Each takes every input, returns a code, and
-// puts the two numbers of its answer into the two words of `answer`, also where it refuses. In C the array is one pointer, with no length.
+// The calls for C and Rust, on numbers and word slices; `capi_c` exports them for C, and include/zuzgravel.h declares them. Each takes every input, returns a code,
+// and puts the two numbers of its answer into the two words of `answer`, also where it refuses.
 #![tactic(auto)]
 
 ghost use Rattle.std.specs.Prelude.{◌≡◌, length};
@@ -20,12 +20,7 @@ use replies::reply::{of_answer, of_outcome};
 use replies::table::{RECORD_WORDS, fill_words};
 
 // Figures: the records of the tasks as words, RECORD_WORDS a record; the value is their number.
-#[unsafe(no_mangle)]
-pub extern "C" fn zuzgravel_figures(
-    board: &[u32],
-    records: &mut [u32],
-    answer: &mut [u64; 2],
-) -> u32
+pub fn zuzgravel_figures(board: &[u32], records: &mut [u32], answer: &mut [u64; 2]) -> u32
     ensures code { result ≡ outcome_code (figures_answer board.now (record_room records.old)) }
     ensures answer { answer.new ≡ outcome_words (figures_answer board.now (record_room records.old)) }
     ensures records { records.new ≡ records_after board.now
@@ -46,13 +41,7 @@ pub extern "C" fn zuzgravel_figures(
 }
 
 // Overhead: the value is γ(i, j); tasks are their numbers from 1.
-#[unsafe(no_mangle)]
-pub extern "C" fn zuzgravel_overhead(
-    board: &[u32],
-    i: usize,
-    j: usize,
-    answer: &mut [u64; 2],
-) -> u32
+pub fn zuzgravel_overhead(board: &[u32], i: usize, j: usize, answer: &mut [u64; 2]) -> u32
     ensures code { result ≡ outcome_code (overhead_answer board.now i j) }
     ensures answer { answer.new ≡ outcome_words (overhead_answer board.now i j) }
 {
@@ -60,13 +49,7 @@ pub extern "C" fn zuzgravel_overhead(
 }
 
 // Weigh: the value is the sum of task i, a number from 1, at these times.
-#[unsafe(no_mangle)]
-pub extern "C" fn zuzgravel_weigh(
-    board: &[u32],
-    times: &[u32],
-    i: usize,
-    answer: &mut [u64; 2],
-) -> u32
+pub fn zuzgravel_weigh(board: &[u32], times: &[u32], i: usize, answer: &mut [u64; 2]) -> u32
     ensures code { result ≡ outcome_code (weigh_answer board.now times.now i) }
     ensures answer { answer.new ≡ outcome_words (weigh_answer board.now times.now i) }
 {
@@ -74,8 +57,7 @@ pub extern "C" fn zuzgravel_weigh(
 }
 
 // Analyse: the settled times into `times` where they are the answer, and the records as `zuzgravel_figures` writes them unless refused.
-#[unsafe(no_mangle)]
-pub extern "C" fn zuzgravel_analyse(
+pub fn zuzgravel_analyse(
     board: &[u32],
     times: &mut [u32],
     scratch: &mut [u32],
@@ -97,8 +79,7 @@ pub extern "C" fn zuzgravel_analyse(
 }
 
 // Analyse in the order of a list of task numbers: buffers as those of `zuzgravel_analyse`.
-#[unsafe(no_mangle)]
-pub extern "C" fn zuzgravel_analyse_in_order<'a>(
+pub fn zuzgravel_analyse_in_order<'a>(
     board: &'a [u32],
     times: &mut [u32],
     scratch: &mut [u32],
@@ -124,8 +105,7 @@ pub extern "C" fn zuzgravel_analyse_in_order<'a>(
 
 // How a time is made up: the six parts of the sum of a task, a number from 1, into `parts`, and the number of the largest as the value; buffers as those of
 // `zuzgravel_analyse`.
-#[unsafe(no_mangle)]
-pub extern "C" fn zuzgravel_make_up(
+pub fn zuzgravel_make_up(
     board: &[u32],
     times: &mut [u32],
     scratch: &mut [u32],
