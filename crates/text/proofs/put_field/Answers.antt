@@ -1,5 +1,4 @@
 -- `text::put_field` meets its contract.
-use borrow.Author.Rules.{rules}
 use native.Mathlib.Omega.{arith}
 use Rattle.text.proofs.Buffer.{put_then}
 use Rattle.text.proofs.put_field.Goals as goal

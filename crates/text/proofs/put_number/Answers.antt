@@ -1,5 +1,4 @@
 -- `text::put_number` meets its contract: any number has at most 20 digits.
-use borrow.Author.Rules.{rules}
 use native.Mathlib.Omega.{arith}
 use Rattle.text.proofs.Digits.{decimal-bound, ended-bound}
 use Rattle.text.proofs.put_number.Goals as goal

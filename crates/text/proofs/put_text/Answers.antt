@@ -1,11 +1,7 @@
 -- `text::put_text` meets its contract. The loop's invariant: the first i bytes are put.
-use Prim.Native.Nat.{◌+◌, ◌-◌, ◌≤◌}
-use mathlib.Core.Path.{◌≡◌, refl}
-use borrow.Author.Rules.{rules}
+use mathlib.Core.Path.{refl}
 use native.Mathlib.Omega.{arith}
-use lib.ListN.{length, take}
 use lib.Seq.{take_all}
-use Rattle.text.specs.Buffer.{Put}
 use Rattle.text.proofs.Buffer.{put-none, put_next}
 use Rattle.text.proofs.put_text.Goals as goal
 

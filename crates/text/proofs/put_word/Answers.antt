@@ -1,5 +1,4 @@
 -- `text::put_word` meets its contract: a word has at most 10 digits.
-use borrow.Author.Rules.{rules}
 use native.Mathlib.Omega.{arith}
 use Rattle.text.proofs.Digits.{decimal-bound, ended-bound}
 use Rattle.text.proofs.put_word.Goals as goal

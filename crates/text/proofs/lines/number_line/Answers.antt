@@ -1,5 +1,4 @@
 -- `text::lines::number_line` meets its contract.
-use borrow.Author.Rules.{rules}
 use native.Mathlib.Omega.{arith}
 use Rattle.text.proofs.Fields.{put_last, put-more}
 use Rattle.text.proofs.lines.number_line.Goals as goal
