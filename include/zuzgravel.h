@@ -3,7 +3,7 @@
  * on, as long as every core runs the board's tasks as recorded and none of them is due more often than its period or released later
  * than its jitter after it is due.
  *
- * The six calls of the proved library (`rt staticlib capi` writes target/staticlib/libcapi.a). Each call takes every input: it
+ * The six calls of the proved library (`harness/library` writes target/staticlib/libcapi.a). Each call takes every input: it
  * tests what it is given and refuses with the number and the place of the refusal table (README.md). No call keeps a pointer,
  * allocates, or fails to return.
  *

@@ -1,4 +1,4 @@
-// Links the static library that `rt staticlib capi` writes; ZUZGRAVEL_LIB names its folder.
+// Links the static library that `harness/library` writes; ZUZGRAVEL_LIB names its folder.
 fn main() {
     let folder = std::env::var("ZUZGRAVEL_LIB").unwrap_or_else(|_| {
         let here = std::env::var("CARGO_MANIFEST_DIR").unwrap();
