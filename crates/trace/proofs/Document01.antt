@@ -16,7 +16,7 @@ use Rattle.board.specs.Sound.{Sound}
 use Rattle.document01.specs.Document01 as old
 use Rattle.lru_cache.specs.Recency.{some_in, miss_count, useful_in}
 use Rattle.lru_cache.proofs.OneWay01.{misses-one, useful-sets-one}
-use Rattle.trace.specs.Cache.{set_of, place_of, cached}
+use Rattle.trace.specs.Cache.{place_of, cached}
 use Rattle.trace.specs.Traces.{trace_of, work, loads, loads_before, loads_from, trace_pd, bus_loads, trace_md, evicts, useful, useful_at, most_useful}
 use Rattle.trace.proofs.Caches.{place-one}
 use Rattle.trace.proofs.Sets.{most_useful-plain, useful_at-one-cache}

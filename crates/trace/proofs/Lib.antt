@@ -1,4 +1,4 @@
--- The laws that join the code's scans to the definitions, and the walks of the functions over a trace that is held.
+-- The laws that join the code's scans to the definitions.
 pub mod Places
 pub mod Starts
 pub mod Loads
@@ -8,9 +8,6 @@ pub mod Sets
 pub mod Counts
 pub mod Bounds
 pub mod Touched
-pub mod Accessor
-pub mod Above
-pub mod Instructions
 pub mod Reciprocal
 pub mod OneWay
 pub mod Document01

@@ -47,5 +47,5 @@ module _ (b : List ℕ) (start len : ℕ) (sound : Sound b) (lies : Lies b start
   pub kind-bound : kind_of w ≤ 2
   kind-bound = subst (λ (x : ℕ). kind_of x ≤ 2) work-there (sound.kind among within)
 
-  pub data_block : 1 ≤ kind_of w → first_data_block ≤ data_block (trace_at b start len) p
-  data_block = subst (λ (x : ℕ). 1 ≤ kind_of x → first_data_block ≤ block_of x) work-there (sound.data_block among within)
+  pub data_block_placed : 1 ≤ kind_of w → first_data_block ≤ data_block (trace_at b start len) p
+  data_block_placed = subst (λ (x : ℕ). 1 ≤ kind_of x → first_data_block ≤ block_of x) work-there (sound.data_block among within)

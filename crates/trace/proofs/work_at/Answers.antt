@@ -1,5 +1,4 @@
 -- `trace::work_at` meets its contract.
-use borrow.Author.Rules.{rules}
 use Rattle.trace.proofs.work_at.Goals as goal
 
 pub returns : goal.returns

@@ -1,5 +1,4 @@
 -- `trace::cache::cache_at` meets its contract.
-use borrow.Author.Rules.{rules}
 use Prim.Native.Nat.{ℕ, ◌+◌, ◌/◌}
 use mathlib.Core.Path.{refl, ap}
 use native.Mathlib.Nat.{div-le_self}

@@ -1,6 +1,5 @@
 -- `trace::cursor::first` meets its contract.
 use native.Mathlib.Omega.{arith}
-use borrow.Author.Rules.{rules}
 use Rattle.trace.proofs.Starts.{at-begin}
 use Rattle.trace.proofs.cursor.first.Goals as goal
 

@@ -1,7 +1,6 @@
 -- `trace::cursor::next` meets its contract.
 use mathlib.Core.Path.{refl}
 use native.Mathlib.Omega.{arith}
-use borrow.Author.Rules.{rules}
 use Rattle.trace.proofs.Starts.{start_of-next, start_of-fits}
 use Rattle.trace.proofs.cursor.next.Goals as goal
 

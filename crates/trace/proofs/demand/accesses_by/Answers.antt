@@ -1,5 +1,4 @@
 -- `trace::demand::accesses_by` meets its contract.
-use borrow.Author.Rules.{rules}
 use Prim.Native.Nat.{ℕ}
 use mathlib.Core.Bool.{◌&&◌}
 use mathlib.Core.Path.{ap, ap₂, ◌∙◌}
@@ -21,7 +20,7 @@ returns c = let read = c in
       omega (
         arith,
         c.one_if-fetched.ensures.0 ∙ ap (λ (m : ℕ). only_if (leb a.low m) 1) c.fetch_word-block.ensures,
-        c.read_by_lem.ensures.0 ∙ ap₂ (λ (k m : ℕ). only_if (eqb k 1 && leb a.high m) 1) kind block,
+        c.read_by-read.ensures.0 ∙ ap₂ (λ (k m : ℕ). only_if (eqb k 1 && leb a.high m) 1) kind block,
         c.written_by.ensures.0 ∙ ap (λ (k : ℕ). only_if (eqb k 2) 1) kind,
       ),
       omega arith,

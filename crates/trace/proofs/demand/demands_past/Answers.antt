@@ -1,15 +1,12 @@
 -- `trace::demand::demands_past` meets its contract. The invariant: pd has the cycles, and md the bus accesses, of the instructions passed.
 use borrow.Author.Rules.{rules}
-use Prim.Native.Nat.{◌*◌, ◌-◌, ◌≤◌}
-use mathlib.Core.Path.{◌≡◌, sym, ap, ◌∙◌}
+use mathlib.Core.Path.{sym, ap, ◌∙◌}
 use native.Mathlib.Omega.{arith}
 use Rattle.folds.specs.Folds.{sum_to}
 use Rattle.folds.proofs.Folds.{sum_to-none}
 use Rattle.folds.proofs.Loops.{at-end, sum_to-turn}
 use Rattle.board.specs.Layout.{cycles_of}
-use Rattle.trace.specs.Traces.{work, trace_pd}
-use Rattle.trace.specs.Positions.{accesses}
-use Rattle.trace.specs.Places.{trace_at}
+use Rattle.trace.specs.Traces.{trace_pd}
 use Rattle.trace.proofs.demand.demands_past.Goals as goal
 
 pub loop-p-init : goal.loop-p-init

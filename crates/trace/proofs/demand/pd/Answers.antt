@@ -1,14 +1,12 @@
 -- `trace::demand::pd` meets its contract. The invariant: sum has the cycles of the instructions passed.
 use borrow.Author.Rules.{rules}
-use Prim.Native.Nat.{◌*◌, ◌-◌, ◌≤◌}
-use mathlib.Core.Path.{◌≡◌, sym, ap, ◌∙◌}
+use mathlib.Core.Path.{sym, ap, ◌∙◌}
 use native.Mathlib.Omega.{arith}
 use Rattle.folds.specs.Folds.{sum_to}
 use Rattle.folds.proofs.Folds.{sum_to-none}
 use Rattle.folds.proofs.Loops.{at-end, sum_to-turn}
 use Rattle.board.specs.Layout.{cycles_of}
-use Rattle.trace.specs.Traces.{work, trace_pd}
-use Rattle.trace.specs.Places.{trace_at}
+use Rattle.trace.specs.Traces.{trace_pd}
 use Rattle.trace.proofs.demand.pd.Goals as goal
 
 pub loop-p-init : goal.loop-p-init
