@@ -2,23 +2,28 @@
 use Prim.Native.Nat.{◌%◌}
 use mathlib.Core.Path.{◌≡◌, ◌∙◌}
 use native.Mathlib.Omega.{arith}
-use borrow.Author.Rules.{rules}
 use Rattle.ranges.specs.Ranges.{task_ranges}
-use Rattle.ranges.proofs.Rows.{task_row, avoids}
+use Rattle.ranges.proofs.Rows.{task_row}
 use Rattle.ranges.proofs.task_ok.Goals as goal
 
 pub returns-in-0 : goal.returns-in-0
-returns-in-0 c = c.within.ensures ∙ task_row _ _ c.in-0.keys1
+unfolding task_ranges
+returns-in-0 c = c.within.ensures ∙ task_row _ _ c.in-0.is
 
 pub returns-in-1 : goal.returns-in-1
-returns-in-1 c = c.within-in-1.ensures ∙ task_row _ _ c.in-1.keys2
+unfolding task_ranges
+returns-in-1 c = c.within-in-1.ensures ∙ task_row _ _ c.in-1.is
 
 pub returns-in-2 : goal.returns-in-2
-returns-in-2 c = c.within-in-2.ensures ∙ task_row _ _ c.in-2.keys3
+unfolding task_ranges
+returns-in-2 c = c.within-in-2.ensures ∙ task_row _ _ c.in-2.is
 
 pub returns-in-3 : goal.returns-in-3
-returns-in-3 c = c.within-in-3.ensures ∙ task_row _ _ c.in-3.keys4
+unfolding task_ranges
+returns-in-3 c = c.within-in-3.ensures ∙ task_row _ _ c.in-3.is
 
 pub returns-in_default : goal.returns-in_default
-returns-in_default c = let last : _ % 5 ≡ 4 = omega (arith, avoids _ 4 c.in_default.rest) in
+unfolding task_ranges
+returns-in_default c =
+    let last : c.args.i % 5 ≡ 4 = omega arith in
     c.within-in_default.ensures ∙ task_row _ _ last

@@ -2,7 +2,6 @@
 use mathlib.Core.Bool.{Bool, true, false, cond, not, ◌&&◌, ◌||◌}
 use mathlib.Core.Path.{◌≡◌, refl, ◌∙◌}
 use lib.Dec.{eqb, leb}
-use borrow.Author.Rules.{rules}
 use Rattle.board.specs.Layout.{first_data_block}
 use Rattle.ranges.specs.Ranges.{work_ok}
 use Rattle.ranges.proofs.work_ok.Goals as goal
@@ -13,5 +12,6 @@ either-is-cond true false z w = refl
 either-is-cond false y z w = refl
 
 pub returns : goal.returns
+unfolding work_ok
 returns c = either-is-cond (eqb c.kind-kind.result 0) (eqb c.block-block.result 0) (leb c.kind-kind.result 2) (leb first_data_block c.block-block.result)
     ∙ simp (c.block-block.ensures.0, c.kind-kind.ensures)
