@@ -5,7 +5,6 @@ use mathlib.Core.Path.{◌≡◌, sym, ap, ◌∙◌}
 use native.Mathlib.Nat.{zero-mul}
 use native.Mathlib.Omega.{arith}
 use lib.Dec.{eqb}
-use borrow.Author.Rules.{rules}
 use Rattle.folds.specs.Folds.{only_if}
 use Rattle.bitset.specs.Bits.{bit, word_of}
 use Rattle.bitset.proofs.Words.{bit-none, bit-one_at, word_of-is}
