@@ -1,6 +1,4 @@
 -- `marks::accesses::mark_data` meets its contract.
--- Assumes nothing.
-use borrow.Author.Rules.{rules}
 use borrow.Author.Tests.{eq-eqb, ne_eqb}
 use Prim.Native.Nat.{ℕ, ◌+◌}
 use mathlib.Core.Bool.{Bool}
@@ -14,37 +12,34 @@ use Rattle.trace.specs.Caches.{place_in}
 use Rattle.marks.specs.Accesses.{load_of, data_touches}
 use Rattle.marks.proofs.Steps.{idle-held, idle-marks, idle-missed, read_none, read-load}
 use Rattle.marks.proofs.Touched.{join-none, touch-words, touch-data}
-use Rattle.marks.proofs.accesses.mark_data.Statement.{statement}
-use Rattle.marks.proofs.accesses.mark_data.Tie as tie
+use Rattle.marks.proofs.accesses.mark_data.Goals as goal
 
 -- whether a work word writes, by its kind
 not_written : (w : ℕ) → (kind_of w ≡ 2 → ⊥) → only_if (eqb (kind_of w) 2) 1 ≡ 0
 not_written w n = ap (λ (b : Bool). only_if b 1) (ne_eqb (kind_of w) 2 n)
 
-executes : tie.Need-returns
-executes c =
-    let start = c.before.before.before.before.before in
-    let a = start.args in
+pub returns-in-0 : goal.returns-in-0
+returns-in-0 c = let start = c in
+    let a = c.args in
     let s = place_in a.cache (block_of a.w) in
     let kind : kind_of a.w ≡ 0 = omega arith in
     let idle : load_of a.w ≡ 0 = read_none a.w (λ k. omega (arith, k, kind)) in (
       omega (arith, not_written a.w (λ k. omega (arith, k, kind)), idle-missed a.base a.ways s (load_of a.w) a.e a.held.now a.marks.now idle),
       idle-held a.base a.ways s (load_of a.w) a.e a.held.now a.marks.now idle,
       idle-marks a.base a.ways s (load_of a.w) a.e a.held.now a.marks.now idle,
-      join-none a.ecb.now (data_touches a.cache a.w) start.requires.2 c.before.before.before.slice-known2.given (λ s. rw (eq-eqb (kind_of a.w) 0 kind)),
+      join-none a.ecb.now (data_touches a.cache a.w) c.requires.2 c.slice_known-2-1.given (λ s. rw (eq-eqb (kind_of a.w) 0 kind)),
       omega arith,
     )
 
-reads : tie.Need-returns-2
-reads c =
-    let loaded = c.before.before.before.before.before.before in
-    let taken = loaded.before.before.before.before in
-    let a = taken.before.before.before.before.before.before.args in
-    let block = taken.block in
+pub returns-in-1 : goal.returns-in-1
+returns-in-1 c = let loaded = c in
+    let taken = c in
+    let a = c.args in
+    let block = c.block in
     let kind : kind_of a.w ≡ 1 = omega arith in
     let own : place_in a.cache block.result ≡ place_in a.cache (block_of a.w) = ap (place_in a.cache) block.ensures.0 in
     let load : block.result + 1 ≡ load_of a.w = ap (λ (m : ℕ). m + 1) block.ensures.0 ∙ read-load a.w kind in
-    let is = loaded.mark-load.ensures in (
+    let is = c.mark_load.ensures in (
       omega (arith, not_written a.w (λ k. omega (arith, k, kind)), is.0, ap₂ (λ (k x : ℕ). position_missed a.base a.ways k x a.held.now) own load),
       is.1 ∙ ap₂ (λ (k x : ℕ). position_held a.base a.ways k x a.e a.held.now) own load,
       is.2 ∙ ap₂ (λ (k x : ℕ). position_marks a.base a.ways k x a.e a.held.now a.marks.now) own load,
@@ -52,12 +47,11 @@ reads c =
       is.4,
     )
 
-writes : tie.Need-returns-3
-writes c =
-    let added = c.before.before in
-    let s = added.before.place_of in
-    let taken = added.before.before in
-    let a = taken.before.before.before.before.before.before.before.args in
+pub returns-in_default : goal.returns-in_default
+returns-in_default c = let added = c in
+    let s = c.place_of in
+    let taken = c in
+    let a = c.args in
     let set = place_in a.cache (block_of a.w) in
     let kind : kind_of a.w ≡ 2 = omega arith in
     let idle : load_of a.w ≡ 0 = read_none a.w (λ k. omega (arith, k, kind)) in
@@ -65,14 +59,7 @@ writes c =
       omega (arith, written, idle-missed a.base a.ways set (load_of a.w) a.e a.held.now a.marks.now idle),
       idle-held a.base a.ways set (load_of a.w) a.e a.held.now a.marks.now idle,
       idle-marks a.base a.ways set (load_of a.w) a.e a.held.now a.marks.now idle,
-      added.add-to.ensures ∙ touch-words a.ecb.now s.result
-          ∙ touch-data a.ecb.now a.cache a.w (s.ensures.0 ∙ ap (place_in a.cache) taken.block2.ensures.0) (λ k. omega (arith, k, kind)),
+      c.add_to.ensures ∙ touch-words a.ecb.now s.result
+          ∙ touch-data a.ecb.now a.cache a.w (s.ensures.0 ∙ ap (place_in a.cache) c.block-in_default.ensures.0) (λ k. omega (arith, k, kind)),
       omega arith,
     )
-
-pub mark-data-spec : {M : Type 1} → statement M
-mark-data-spec =
-    tie.close
-    (tie.spec (λ c κs. search rules) (λ c. search rules) (λ c. search rules) (λ c κs. search rules) (λ c κs. search rules) (λ c κs. search rules)
-    (λ c κs. search rules) (λ c κs. search rules) (λ c. search rules) (λ c. search rules) (λ c. search rules) executes (λ c. search rules)
-    (λ c. search rules) (λ c. search rules) reads (λ c. search rules) (λ c. search rules) writes)
