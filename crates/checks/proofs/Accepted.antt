@@ -28,14 +28,14 @@ module _ (n : ℕ) (order : List ℕ) (passed : order_row n order ≡ Passed) wh
   row16 : (refuse_unless 16 (eqb (length order) n) (length order) ≡ Passed) × (refuse_first 16 (number_ok n order) 0 n ≡ Passed)
   row16 = or_else-passed _ _ passed
 
-  number_ok : (k : ℕ) → k < n → (within 1 n (get_or order k 0) ≡ true) × (not (named_before order k (get_or order k 0)) ≡ true)
-  number_ok k h = and_both _ _ (refuse_first-passed 16 (number_ok n order) 0 n row16.1 k zero-le h)
+  number-passes : (k : ℕ) → k < n → (within 1 n (get_or order k 0) ≡ true) × (not (named_before order k (get_or order k 0)) ≡ true)
+  number-passes k h = and_both _ _ (refuse_first-passed 16 (number_ok n order) 0 n row16.1 k zero-le h)
 
   order-taken : Permutation n order
   order-taken = record {
     size = eqb-true (length order) n (refuse_unless-passed 16 _ _ row16.0);
-    within = λ k h. within-true 1 n (get_or order k 0) (number_ok k h).0;
-    differ = λ j k l h same. false≢true (sym (not-true _ (number_ok k h).1) ∙ any_to-some _ k j l (eq-eqb _ _ same));
+    within = λ k h. within-true 1 n (get_or order k 0) (number-passes k h).0;
+    differ = λ j k l h same. false≢true (sym (not-true _ (number-passes k h).1) ∙ any_to-some _ k j l (eq-eqb _ _ same));
   }
 
 module _ (b : List ℕ) where
