@@ -8,7 +8,7 @@ use native.Mathlib.Numerals.{add-one}
 use native.Mathlib.Omega.{arith}
 use lib.Dec.{leb}
 use lib.ListN.{length, get_or}
-use borrow.Author.Tests.{leb-true, not-false}
+use borrow.Author.Tests.{leb-true}
 use Rattle.folds.specs.Folds.{any_to}
 use Rattle.folds.proofs.Folds.{any_to-none, any_to-next, any_to-some}
 use Rattle.folds.proofs.Numbers.{and_both}
@@ -19,9 +19,9 @@ abbrev pub largest : ℕ
 largest = 2 ^ 64 - 1
 
 -- a digit is a byte from 48 to 57
-pub digit-bounds : (byte : ℕ) {digit : Bool} → digit ≡ is_digit byte → not digit ≡ false → (48 ≤ byte) × (byte ≤ 57)
+pub digit-bounds : (byte : ℕ) {digit : Bool} → digit ≡ is_digit byte → digit ≡ true → (48 ≤ byte) × (byte ≤ 57)
 digit-bounds byte {digit} e h =
-    let both = and_both (leb 48 byte) (leb byte 57) (sym e ∙ not-false digit h) in
+    let both = and_both (leb 48 byte) (leb byte 57) (sym e ∙ h) in
     (leb-true 48 byte both.0, leb-true byte 57 both.1)
 
 -- byte k is no digit
@@ -42,7 +42,7 @@ module _ (bytes : List ℕ) where
   value_none = refl
 
   -- one more digit
-  pub other-next : (k : ℕ) {digit : Bool} → digit ≡ is_digit (get_or bytes k 0) → not digit ≡ false → any_to (other bytes) k ≡ false
+  pub other-next : (k : ℕ) {digit : Bool} → digit ≡ is_digit (get_or bytes k 0) → digit ≡ true → any_to (other bytes) k ≡ false
       → any_to (other bytes) (k + 1) ≡ false
   other-next k e h none = rw (any_to-next (other bytes) k, none, ← e, h)
 
@@ -52,9 +52,9 @@ module _ (bytes : List ℕ) where
   value-next k v d e h more = more ∙ rw (e, h, add-one) (capped-more (value_to bytes k) (get_or bytes k 0 - 48) largest)
 
   -- the number where byte k is no digit, and where all are digits
-  pub number-other : (k : ℕ) {digit : Bool} → k < length bytes → digit ≡ is_digit (get_or bytes k 0) → not digit ≡ true → 0 ≡ number_in bytes
+  pub number-other : (k : ℕ) {digit : Bool} → k < length bytes → digit ≡ is_digit (get_or bytes k 0) → digit ≡ false → 0 ≡ number_in bytes
   unfolding number_in
-  number-other k l e h = rw (any_to-some (other bytes) (length bytes) k l (ap not (sym e) ∙ h))
+  number-other k l e h = rw (any_to-some (other bytes) (length bytes) k l (ap not (sym e ∙ h)))
 
   pub number-all : {k v : ℕ} → k ≡ length bytes → any_to (other bytes) k ≡ false → v ≡ min (value_to bytes k) largest → v ≡ number_in bytes
   unfolding number_in

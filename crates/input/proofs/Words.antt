@@ -37,3 +37,10 @@ unfolding input_refusal
 input_refusal-passed bytes e =
     let both = and_both (leb (bytes_read bytes) 65536) (eqb (bytes_read bytes % 4) 0) (refuse_unless-passed 15 (whole (bytes_read bytes)) (bytes_read bytes) e) in
     omega (arith, leb-true (bytes_read bytes) 65536 both.0)
+
+-- an input that is too long is refused at the byte where the program stops
+pub input_refusal-long : (bytes : List ℕ) → 65537 ≤ length bytes → input_refusal bytes ≡ Refused 15 65537
+unfolding input_refusal refuse_unless
+input_refusal-long bytes h =
+    let stop : bytes_read bytes ≡ 65537 = omega arith in
+    rw stop

@@ -1,7 +1,8 @@
-// A program's input: bytes as little-endian words, and row 15 of the refusal table; and the number in its argument.
+// A program's input: its bytes from a reader, bytes as little-endian words, and row 15 of the refusal table; and the number in its argument.
 #![tactic(auto)]
 
 pub mod argument;
+pub mod reading;
 
 ghost use Rattle.std.specs.Prelude.{◌≡◌, ◌+◌, ◌/◌, ◌≤◌, ◌<◌, length, take};
 ghost use Rattle.io.specs.Counts.{IsPrefixLen};
