@@ -72,3 +72,6 @@ module _ (b : List ℕ) where
     unfolding refusal_of
     refusal-words end words e h =
         rw (e, row1-passed low high, row2-passed (rw found at end), refuse_unless-false 3 (board_words b) (ne_eqb _ _ (rw e at h)))
+
+-- the laws that `check` closes its ways out by
+pub ruleset ways_out = (refusal-short, refusal-long, refusal-header)
