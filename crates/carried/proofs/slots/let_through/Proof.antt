@@ -13,7 +13,7 @@ use Rattle.sums.proofs.Numbers.{product-fits}
 use Rattle.carried.proofs.slots.let_through.Statement.{statement}
 use Rattle.carried.proofs.slots.let_through.Tie as tie
 
-core-sum-requires : tie.Need-core-sum-requires
+core-sum-requires : tie.Need-core_sum-requires
 core-sum-requires c κs =
     let s = c.before.before.before.before.before.before.before in
     let p = s.requires in
@@ -24,12 +24,12 @@ least : (c : tie.After-smaller) → let s = c.before.before.before.before.before
     c.smaller.result ≡ min (core_accesses a.board.now a.times.now a.t a.j a.y) (slots a.board.now a.y * a.s)
 least c =
     let a = c.before.before.before.before.before.before.before.before.before.args in
-    let cap = ap (λ (v : ℕ). v * a.s) (c.before.before.wide.ensures.0 ∙ c.before.before.before.slots.ensures.0) in
-    omega (arith, c.smaller.ensures, c.before.core-sum.ensures.0.same, cap)
+    let cap = ap (λ (v : ℕ). v * a.s) (c.before.before.wide-v.ensures.0 ∙ c.before.before.before.slots.ensures.0) in
+    omega (arith, c.smaller.ensures, c.before.core_sum.ensures.0.same, cap)
 
-pub let-through-spec : {M : Type 1} → statement M
-let-through-spec =
+pub let_through_spec : {M : Type 1} → statement M
+let_through_spec =
     tie.close
-    (tie.spec (λ c. rw (eq-eqb _ _ c.if1.true)) (λ c κs. search rules) (λ c κs. search rules)
+    (tie.spec (λ c. rw (eq-eqb _ _ c.if-y-x.true)) (λ c κs. search rules) (λ c κs. search rules)
     (λ c. product-fits most_slots most_own_accesses (omega arith) (omega arith) (lit< tt)) core-sum-requires (λ c κs. search rules)
-    (λ c. rw (ne_eqb _ _ c.before.before.before.before.if1.false) (least c)))
+    (λ c. rw (ne_eqb _ _ c.before.before.before.before.if-y-x.false) (least c)))

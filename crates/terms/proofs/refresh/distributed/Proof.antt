@@ -13,20 +13,20 @@ use Rattle.terms.proofs.refresh.distributed.Statement.{statement}
 use Rattle.terms.proofs.refresh.distributed.Tie as tie
 
 -- the refreshes of all rows in t cycles, before they are divided by the interval
-due : (c : tie.After-wide3) → c.before.before.before.before.before.before.time.result * c.before.before.wide2.result ≤ latest_time * most_refresh_rows
+due : (c : tie.After-wide-postponed) → c.before.before.before.before.before.before.time-t.result * c.before.before.wide-rows.result ≤ latest_time * most_refresh_rows
 due c = product-bound latest_time most_refresh_rows (omega arith) (omega arith)
 
 returns : tie.Need-returns
 returns c =
     let rows = c.before.before.before.before in
-    distributed-is _ _ _ rows.before.before.before.before.time.ensures.0
-    (rows.before.before.wide.ensures.0 ∙ rows.before.before.before.refresh-interval.ensures.0)
-    (rows.wide2.ensures.0 ∙ rows.before.refresh-rows.ensures.0)
-    c.before.ceil-div.ensures.0 (c.before.before.wide3.ensures.0 ∙ c.before.before.before.put-off.ensures.0)
+    distributed-is _ _ _ rows.before.before.before.before.time-t.ensures.0
+    (rows.before.before.wide-interval.ensures.0 ∙ rows.before.before.before.refresh_interval.ensures.0)
+    (rows.wide-rows.ensures.0 ∙ rows.before.refresh_rows.ensures.0)
+    c.before.ceil_div.ensures.0 (c.before.before.wide-postponed.ensures.0 ∙ c.before.before.before.put_off.ensures.0)
     rows.before.before.before.before.before.before.before.requires.1 (omega (arith, c.smaller.ensures))
 
-pub distributed-spec : {M : Type 1} → statement M
-distributed-spec =
+pub distributed_spec : {M : Type 1} → statement M
+distributed_spec =
     tie.close
     (tie.spec (λ c κs. search rules) (λ c κs. search rules) (λ c κs. search rules) (λ c κs. search rules) (λ c κs. search rules)
     (λ c κs. search rules) (λ c κs. search rules)
