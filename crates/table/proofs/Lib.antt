@@ -1,2 +1,0 @@
--- What the walk of the table leans on.
-pub mod Bytes
