@@ -11,25 +11,25 @@ use Rattle.folds.proofs.Stored.{stored-none, stored_next, stored-all}
 use Rattle.scratch.proofs.add_row.Statement.{statement}
 use Rattle.scratch.proofs.add_row.Tie as tie
 
-abbrev invariant-loop : tie.invariant-loop
+abbrev invariant-loop : tie.invariant-loop-k
 invariant-loop n at scratch₀ md k₀ scratch k = (k ≤ n) × Stored (with_md n at scratch₀) at k scratch₀ scratch
 
-abbrev decreases-loop : tie.decreases-loop
+abbrev decreases-loop : tie.decreases-loop-k
 decreases-loop n at scratch₀ md k₀ scratch k = n - k
 
 -- in a turn, before the store
 abbrev Turn : Type 0
-Turn = tie.In-loop invariant-loop decreases-loop
+Turn = tie.In-loop-k invariant-loop decreases-loop
 
-reads : (t : Turn) → let a = t.before.before.args in let l = t.before.loop in
+reads : (t : Turn) → let a = t.before.before.args in let l = t.before.loop-k in
     with_md a.n a.at l.scratch l.k ≡ with_md a.n a.at a.scratch.now l.k
 reads t =
     let a = t.before.before.args in
-    let l = t.before.loop in
-    ap₂ ◌+◌ (l.inv.1.after (a.at + l.k) (le_refl (a.at + l.k))) (l.inv.1.before (3 * a.n + l.k) (omega arith))
+    let l = t.before.loop-k in
+    ap₂ ◌+◌ (l.invariant.1.after (a.at + l.k) (le_refl (a.at + l.k))) (l.invariant.1.before (3 * a.n + l.k) (omega arith))
 
-pub add-row-spec : {M : Type 1} → statement M
-add-row-spec =
+pub add_row_spec : {M : Type 1} → statement M
+add_row_spec =
     tie.close
     (tie.spec
     invariant-loop
@@ -42,12 +42,12 @@ add-row-spec =
     (λ c. search rules)
     (λ c. search rules)
     (λ c. search rules)
-    (λ c. let t = c.before.before in omega (arith, reads t, t.before.before.requires.fits t.before.loop.k (omega arith)))
+    (λ c. let t = c.before.before in omega (arith, reads t, t.before.before.requires.fits t.before.loop-k.k (omega arith)))
     (λ c. search rules)
     (λ c. search rules)
     (λ c. search rules)
     (λ c. search rules)
     (λ c. search rules)
-    (λ c. let t = c.before.before in (omega arith, stored_next _ _ _ t.before.loop.invariant.1 (omega arith) (reads t)))
+    (λ c. let t = c.before.before in (omega arith, stored_next _ _ _ t.before.loop-k.invariant.1 (omega arith) (reads t)))
     (λ c. search rules)
-    (λ c. let l = c.before.loop in stored-all _ _ _ l.invariant.1 l.invariant.0 (omega arith)))
+    (λ c. let l = c.before.loop-k in stored-all _ _ _ l.invariant.1 l.invariant.0 (omega arith)))
