@@ -1,28 +1,35 @@
 // The program's input as words and its argument as a task's number, and the page of how that task's time is made up as bytes.
 #![tactic(auto)]
 
-ghost use Rattle.std.specs.Prelude.{◌≡◌, ◌≤◌, length, take, drop};
+ghost use Rattle.std.specs.Prelude.{◌≡◌, ◌≤◌, length, take, drop, IfOk};
 ghost use Rattle.io.specs.Counts.{IsPrefixLen};
 ghost use Rattle.refusals.specs.declared.Verdict.TheVariants.{Passed};
 ghost use Rattle.input.specs.Input.{input_refusal};
 ghost use Rattle.input.specs.Argument.{number_in};
 ghost use Rattle.text.specs.Buffer.{Put};
+ghost use Rattle.page.specs.Page.{Answered};
 ghost use Rattle.makeup_page.specs.MakeUpPage.{board_made_up, make_up_page};
 
 use board::{MOST_SCRATCH, MOST_TASKS, MOST_WORDS};
 use input::argument::number_in;
+use input::reading::read_full;
 use input::{decode, refusal};
 use parts_page::made_up_page;
 use refusals::Verdict;
+use std::io::{Error, Read, Write};
 use text::lines::pair_line;
 
-// Reads the input until its end, a failed read or 65,537 bytes, and writes the page of the task that the argument numbers.
-pub fn run(argument: &[u8], from: i32, to: i32) {
+// Reads the input until its end, a failed read or 65,537 bytes, and writes the page of the task that the argument numbers: answers whether no read failed, or how
+// the writing did.
+pub fn run<R: Read, W: Write>(argument: &[u8], from: &mut R, to: &mut W) -> Result<bool, Error>
+    ensures { IfOk result (Answered (make_up_page argument.now) (R.remaining from.old) (R.remaining from.new) (W.contents to.old) (W.contents to.new)) }
+{
     let mut bytes = [0u8; 65537];
-    let count = io::read_full(from, &mut bytes);
+    let reading = read_full(from, &mut bytes);
     let mut out = [0u8; 512];
-    let size = page_of(argument, &bytes[..count], &mut out);
-    io::write_all(to, &out[..size]);
+    let size = page_of(argument, &bytes[..reading.count], &mut out);
+    to.write_all(&out[..size])?;
+    Ok(reading.whole)
 }
 
 // Puts the page of the argument and the input at the start of out, and answers its length. The rest of out is as it was.

@@ -1,26 +1,31 @@
 // The program's input as words, and its answer page as bytes.
 #![tactic(auto)]
 
-ghost use Rattle.std.specs.Prelude.{◌≡◌, ◌≤◌, length, take, drop};
+ghost use Rattle.std.specs.Prelude.{◌≡◌, ◌≤◌, length, take, drop, IfOk};
 ghost use Rattle.io.specs.Counts.{IsPrefixLen};
 ghost use Rattle.refusals.specs.declared.Verdict.TheVariants.{Passed};
 ghost use Rattle.input.specs.Input.{input_refusal};
 ghost use Rattle.text.specs.Buffer.{Put};
-ghost use Rattle.page.specs.Page.{board_page, page_of};
+ghost use Rattle.page.specs.Page.{board_page, page_of, Answered};
 
 use answer_page::answer_page;
 use board::{MOST_SCRATCH, MOST_TASKS, MOST_WORDS};
+use input::reading::read_full;
 use input::{decode, refusal};
 use refusals::Verdict;
+use std::io::{Error, Read, Write};
 use text::lines::pair_line;
 
-// Reads the input until its end, a failed read or 65,537 bytes, and writes its page.
-pub fn run(from: i32, to: i32) {
+// Reads the input until its end, a failed read or 65,537 bytes, and writes its page: answers whether no read failed, or how the writing did.
+pub fn run<R: Read, W: Write>(from: &mut R, to: &mut W) -> Result<bool, Error>
+    ensures { IfOk result (Answered page_of (R.remaining from.old) (R.remaining from.new) (W.contents to.old) (W.contents to.new)) }
+{
     let mut bytes = [0u8; 65537];
-    let count = io::read_full(from, &mut bytes);
+    let reading = read_full(from, &mut bytes);
     let mut out = [0u8; 4096];
-    let size = page_of(&bytes[..count], &mut out);
-    io::write_all(to, &out[..size]);
+    let size = page_of(&bytes[..reading.count], &mut out);
+    to.write_all(&out[..size])?;
+    Ok(reading.whole)
 }
 
 // Puts the page of the input at the start of out, and answers its length. The rest of out is as it was.

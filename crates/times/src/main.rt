@@ -1,8 +1,9 @@
 // Answers the board on standard input with its page on standard output.
 #![tactic(auto)]
 
-use libc::{STDIN_FILENO, STDOUT_FILENO};
+use std::io::Error;
 
-fn main() {
-    page::run(STDIN_FILENO, STDOUT_FILENO);
+fn main(rt: HostRuntime) -> Result<(), Error> {
+    page::run(&mut rt.stdin(), &mut rt.stdout())?;
+    Ok(())
 }
