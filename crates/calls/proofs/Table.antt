@@ -1,8 +1,6 @@
 -- The records that a call fills make the table that its contract states.
 -- Assumes nothing.
-use Prim.Native.Nat.{ℕ}
-use mathlib.Core.List.{List}
-use mathlib.Core.Path.{◌≡◌, refl}
+use Rattle.std.proofs.Common.{ℕ, List, ◌≡◌, refl, ap, ◌∙◌}
 use Rattle.folds.specs.Folds.{fill_to}
 use Rattle.folds.proofs.Lists.{fill_to-none}
 use Rattle.refusals.specs.declared.Verdict.{Verdict}
@@ -16,3 +14,7 @@ pub records-table : (b : List ℕ) (v : Verdict) (old : List Figure) → fill_to
 unfolding table_after
 records-table b Passed old = refl
 records-table b (Refused number place) old = fill_to-none (figure_of b) old
+
+-- of n records, and what the table then holds
+pub filled : (b : List ℕ) (v : Verdict) (old new : List Figure) (n : ℕ) → n ≡ records_of v b → new ≡ fill_to (figure_of b) n old → new ≡ table_after b v old
+filled b v old new n e h = h ∙ ap (λ (k : ℕ). fill_to (figure_of b) k old) e ∙ records-table b v old
