@@ -1,6 +1,5 @@
 -- `checks::check_analyse` meets its contract.
 use Prim.Native.Nat.{ℕ}
-use borrow.Author.Rules.{rules}
 use Rattle.checks.specs.CallRefusals.{buffer_rows, analyse_refusal}
 use Rattle.checks.proofs.Checks.{board-then}
 use Rattle.checks.proofs.check_analyse.Goals as goal

@@ -1,6 +1,5 @@
 -- `checks::check_figures` meets its contract.
 use Prim.Native.Nat.{ℕ}
-use borrow.Author.Rules.{rules}
 use Rattle.checks.specs.CallRefusals.{table_row, figures_refusal}
 use Rattle.checks.proofs.Checks.{board-then}
 use Rattle.checks.proofs.check_figures.Goals as goal

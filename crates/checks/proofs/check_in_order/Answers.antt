@@ -1,6 +1,5 @@
 -- `checks::check_in_order` meets its contract.
 use Prim.Native.Nat.{ℕ}
-use borrow.Author.Rules.{rules}
 use Rattle.refusals.specs.Refusals.{◌or_else◌}
 use Rattle.checks.specs.CallRefusals.{buffer_rows, order_row, in_order_refusal}
 use Rattle.checks.proofs.Checks.{row-then, board-then}

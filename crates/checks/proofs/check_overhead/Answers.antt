@@ -1,6 +1,5 @@
 -- `checks::check_overhead` meets its contract.
 use Prim.Native.Nat.{ℕ}
-use borrow.Author.Rules.{rules}
 use Rattle.refusals.specs.Refusals.{◌or_else◌}
 use Rattle.checks.specs.CallRefusals.{task_row, overhead_refusal}
 use Rattle.checks.proofs.Checks.{row-then, board-then}

@@ -2,7 +2,6 @@
 use Prim.Native.Nat.{ℕ}
 use mathlib.Core.Path.{◌≡◌, refl, sym, ◌∙◌}
 use native.Mathlib.Omega.{arith}
-use borrow.Author.Rules.{rules}
 use Rattle.refusals.proofs.Sound.{sound}
 use Rattle.checks.proofs.rows.board_rows.Goals as goal
 
@@ -16,8 +15,8 @@ returns-in-Passed c =
 
 pub returns-in-Refused : goal.returns-in-Refused
 returns-in-Refused c = record {
-      rows = c.in-Refused.ensures;
-      tasks = λ e. let z : ◌≡◌ {A = ℕ} 0 1 = cc in absurd (omega arith);
-      some = λ h. absurd (omega arith);
-      few = omega arith;
-    }
+  rows = c.in-Refused.ensures;
+  tasks = λ e. let z : ◌≡◌ {A = ℕ} 0 1 = cc in absurd (omega arith);
+  some = λ h. absurd (omega arith);
+  few = omega arith;
+}

@@ -1,5 +1,4 @@
 -- `checks::rows::buffer_rows` meets its contract.
-use borrow.Author.Rules.{rules}
 use Rattle.checks.proofs.Checks.{row-then}
 use Rattle.checks.proofs.rows.buffer_rows.Goals as goal
 

@@ -1,12 +1,11 @@
 -- `checks::rows::first_over` meets its contract. The invariant: what is to be found is what is found from here on.
-use Prim.Native.Nat.{◌+◌, ◌-◌, ◌≤◌, ◌<◌}
-use mathlib.Core.Path.{◌≡◌, refl, ◌∙◌}
+use Prim.Native.Nat.{◌+◌, ◌≤◌, ◌<◌}
+use mathlib.Core.Path.{refl, ◌∙◌}
 use native.Mathlib.Omega.{arith}
 use lib.ListN.{get_or}
 use borrow.Author.Rules.{rules}
 use borrow.Author.Tests.{le-leb, lt-leb}
 use Rattle.sums.specs.Sums.{bound}
-use Rattle.refusals.specs.Refusals.{first_bad}
 use Rattle.refusals.proofs.Searches.{first_bad-pass, first_bad-stop, first_bad-end}
 use Rattle.refusals.proofs.Sound.{sound}
 use Rattle.checks.specs.CallRefusals.{time_ok}

@@ -1,13 +1,6 @@
-use Prim.Native.Nat.{◌+◌, ◌-◌, ◌≤◌, ◌<◌}
-use mathlib.Core.Path.{◌≡◌, refl, ◌∙◌}
-use native.Mathlib.Omega.{arith}
-use lib.ListN.{get_or}
-use borrow.Author.Rules.{rules}
-use borrow.Author.Tests.{le-leb, lt-leb}
-use Rattle.sums.specs.Sums.{bound}
+use Prim.Native.Nat.{◌-◌}
+use mathlib.Core.Path.{◌≡◌}
 use Rattle.refusals.specs.Refusals.{first_bad}
-use Rattle.refusals.proofs.Searches.{first_bad-pass, first_bad-stop, first_bad-end}
-use Rattle.refusals.proofs.Sound.{sound}
 use Rattle.checks.specs.CallRefusals.{time_ok}
 use Rattle.checks.proofs.rows.first_over.Given as goal
 

@@ -1,6 +1,5 @@
 -- `checks::rows::scratch_row` meets its contract.
 use native.Mathlib.Omega.{arith}
-use borrow.Author.Rules.{rules}
 use Rattle.board.proofs.Extents.{square-fits}
 use Rattle.checks.proofs.rows.scratch_row.Goals as goal
 
