@@ -14,7 +14,7 @@ use Rattle.interference.proofs.Parts.{sum_parts-is, counted-parts}
 use Rattle.interference.proofs.task_parts.Statement.{statement}
 use Rattle.interference.proofs.task_parts.Tie as tie
 
-module _ (c : tie.After-wide) where
+module _ (c : tie.After-wide-d) where
   abbrev start : tie.Start
   start = c.before.before.before.before
 
@@ -28,25 +28,25 @@ module _ (c : tie.After-wide) where
   i = start.args.i
 
   abbrev count : ℕ → ℕ
-  count k = get_or start.args.t6 k 0
+  count k = get_or start.args.counts k 0
 
-  cycles : c.wide.result ≡ access_cycles b
-  cycles = c.wide.ensures.0 ∙ c.before.access-cycles.ensures.0
+  cycles : c.wide-d.result ≡ access_cycles b
+  cycles = c.wide-d.ensures.0 ∙ c.before.access_cycles.ensures.0
 
   higher : count 0 ≡ higher_work b R i
-  higher = ap (λ (l : List ℕ). get_or l 0 0) start.pre.5
+  higher = ap (λ (l : List ℕ). get_or l 0 0) start.requires.5
 
-  core : count 1 * c.wide.result ≡ own_accesses b R i * access_cycles b
-  core = product-cong (ap (λ (l : List ℕ). get_or l 1 0) start.pre.5) cycles
+  core : count 1 * c.wide-d.result ≡ own_accesses b R i * access_cycles b
+  core = product-cong (ap (λ (l : List ℕ). get_or l 1 0) start.requires.5) cycles
 
-  others : count 2 * c.wide.result ≡ interference b R i (bus b) * access_cycles b
-  others = product-cong (ap (λ (l : List ℕ). get_or l 2 0) start.pre.5) cycles
+  others : count 2 * c.wide-d.result ≡ interference b R i (bus b) * access_cycles b
+  others = product-cong (ap (λ (l : List ℕ). get_or l 2 0) start.requires.5) cycles
 
   fits : task_sum b R i < 2 ^ 64
-  fits = task_sum-bound b R start.pre.0 start.pre.1 i start.pre.2
+  fits = task_sum-bound b R start.requires.0 start.requires.1 i start.requires.2
 
-pub task-parts-spec : {M : Type 1} → statement M
-task-parts-spec =
+pub task_parts_spec : {M : Type 1} → statement M
+task_parts_spec =
     tie.close
     (tie.spec
     (λ c κs. search rules)
