@@ -40,7 +40,7 @@ Head = tie.At-passes invariant-compare decreases-compare invariant-passes decrea
 abbrev cleared-of : Head → Cleared
 cleared-of h = h.before.before.before.before.before.before.before
 
-abbrev head_of : tie.After-make-pass invariant-compare decreases-compare invariant-passes decreases-passes → Head
+abbrev head_of : tie.After-make_pass invariant-compare decreases-compare invariant-passes decreases-passes → Head
 head_of m = m.before.before.before.before
 
 pub run_spec : {M : Type 1} → statement M
@@ -52,9 +52,9 @@ run_spec =
     invariant-passes
     decreases-passes
     (λ c κs. let s = c.before.before.before in omega (arith, s.requires.room.words))
-    (λ c κs. let s = start_of c.before.before.before in (s.pre.room.sound, s.pre.room.tasks, linked-none _))
-    (λ c κs. let s = start_of c.before.before.before.before.before in (s.pre.room.sound, s.pre.room.tasks, cores-none _))
-    (λ c. let k = c.before.before.before.before.before.before in let s = start_of k in underway-start s.args.limit s.pre k.clear.ensures)
+    (λ c κs. let s = start_of c.before.before.before in (s.requires.room.sound, s.requires.room.tasks, linked-none _))
+    (λ c κs. let s = start_of c.before.before.before.before.before in (s.requires.room.sound, s.requires.room.tasks, cores-none _))
+    (λ c. let k = c.before.before.before.before.before.before in let s = start_of k in underway-start s.args.limit s.requires k.clear.ensures)
     (λ c. search rules)
     (λ c. search rules)
     (λ c κs.
@@ -70,18 +70,18 @@ run_spec =
     (λ c. search rules)
     (λ c. search rules)
     (λ c. search rules)
-    (λ c. let k = c.before.before.before.before.compare in (omega arith, below_more _ k.i k.invariant.1 c.if3.false))
+    (λ c. let k = c.before.before.before.before.compare in (omega arith, below_more _ k.i k.invariant.1 c.if-scratch-i.false))
     (λ c. search rules)
     (λ c κs.
     let m = c.before.before.before.before.before.before.before.before.before in
     let h = head_of m in
-    (passable-kept (passable h.passes.inv.prepared.room) m.make-pass.ensures.size, h.before.make-cores.ensures))
+    (passable-kept (passable h.passes.invariant.prepared.room) m.make_pass.ensures.size, h.before.make_cores.ensures))
     (λ c. search rules)
     (λ c.
     let differ = c.before.before.before.before.before in
     let m = differ.before.before.before.before.before.before.before in
-    let advance = c.before.before.advance.ensures in
-    underway-next (head_of m).passes.invariant (omega arith) m.make-pass.ensures (omega arith) differ.if3.true advance.0 advance.1)
+    let advance = c.before.before.advance-due.ensures in
+    underway-next (head_of m).passes.invariant (omega arith) m.make_pass.ensures (omega arith) differ.if-scratch-i.true advance.0 advance.1)
     (λ c. search rules)
     (λ c.
     let h = c.before in
@@ -93,5 +93,5 @@ run_spec =
     let m = c.before.before.before.before.before in
     let h = head_of m in
     let s = start_of (cleared-of h) in
-    let end = underway-still h.passes.inv (omega arith) m.make-pass.ensures (λ k l. c.before.before.compare.invariant.1 k (omega arith)) in
-    (ap Needed c.made.ensures ∙ end.0, ended-cleared s.args.n s.args.scratch.now (cleared-of h).clear.ensures end.1, prepared-stored h.passes.inv.prepared m.make-pass.ensures (omega arith))))
+    let end = underway-still h.passes.invariant (omega arith) m.make_pass.ensures (λ k l. c.before.before.compare.invariant.1 k (omega arith)) in
+    (ap Needed c.made-count.ensures ∙ end.0, ended-cleared s.args.n s.args.scratch.now (cleared-of h).clear.ensures end.1, prepared-stored h.passes.invariant.prepared m.make_pass.ensures (omega arith))))
