@@ -4,6 +4,5 @@ use Rattle.text.proofs.Fields.{put_last, put-more}
 use Rattle.text.proofs.lines.number_line.Goals as goal
 
 pub returns : goal.returns
-returns c = let last = c in
-    let first = c in
+returns c =
     (put-more _ _ _ c.put_field-next.ensures.0 (put_last _ c.put_number.ensures.0), omega arith)

@@ -4,9 +4,7 @@ use Rattle.text.proofs.Fields.{put_last, put-more}
 use Rattle.text.proofs.lines.pair_line.Goals as goal
 
 pub returns : goal.returns
-returns c = let second = c in
-    let first = c in
-    let start = c in (
-      put-more _ _ _ c.put_field-first.ensures.0 (put-more _ _ _ c.put_number-next.ensures.0 (put_last _ c.put_number.ensures.0)),
-      omega arith,
-    )
+returns c = (
+  put-more _ _ _ c.put_field-first.ensures.0 (put-more _ _ _ c.put_number-next.ensures.0 (put_last _ c.put_number.ensures.0)),
+  omega arith,
+)
