@@ -18,7 +18,7 @@ use Rattle.passes.proofs.InOrder.{in_turn-none, in_turn-next}
 
 module _ {S S' : System} (alike : Alike S S') where
   capped-alike : (R : List ℕ) (i : ℕ) → i < S.count → capped S R i ≡ capped S' R i
-  capped-alike R i h = ap₂ (λ (s d : ℕ). min s (d + 1)) (alike.sum R i h) (alike.bound i h)
+  capped-alike R i h = cc (alike.sum R i h, alike.bound i h)
 
   pub pass-alike : (R : List ℕ) → pass S R ≡ pass S' R
   unfolding pass
