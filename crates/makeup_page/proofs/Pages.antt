@@ -4,6 +4,10 @@ use Prim.Native.Nat.{ℕ, ◌-◌, ◌^◌, ◌<◌}
 use mathlib.Core.List.{List}
 use mathlib.Core.Path.{◌≡◌, refl, sym, ap, ◌∙◌}
 use native.Mathlib.Omega.{arith}
+use lib.ListN.{length}
+use Rattle.std.specs.Prelude.{IfSome}
+use Rattle.std.specs.Io.KnownBytes.{Consumes, IsAtEnd}
+use Rattle.std.specs.declared.option.Option.{Option}
 use Rattle.board.specs.Layout.{tasks, most_tasks, most_scratch}
 use Rattle.board.specs.Sound.{Sound}
 use Rattle.refusals.specs.declared.Verdict.{Verdict}
@@ -27,7 +31,7 @@ use Rattle.answer_page.specs.AnswerPage.{bad_line}
 use Rattle.parts_page.specs.PartsPage.{made_up_page}
 use Rattle.parts_page.specs.Printable.{Printable}
 use Rattle.parts_page.proofs.Pages.{printable-as}
-use Rattle.page.proofs.Pages.{input_page-passed, input_page-refused}
+use Rattle.page.proofs.Pages.{input_page-passed, input_page-refused, input_page-whole}
 use Rattle.makeup_page.specs.MakeUpPage.{board_made_up, make_up_page}
 
 -- the sum of a task at the settled times of a sound board is below 2^64
@@ -75,3 +79,9 @@ module _ (argument bytes : List ℕ) where
   pub make_up_page-refused : (number place : ℕ) → input_refusal bytes ≡ Verdict-as-Refused number place → bad_line number place ≡ make_up_page argument bytes
   unfolding make_up_page
   make_up_page-refused = input_page-refused (board_made_up (number_in argument)) bytes
+
+-- the page of what was read of an input: all of it, or at least 65,537 bytes
+pub make_up_page-whole : (argument : List ℕ) (given left : Option (List ℕ)) (bytes : List ℕ) → Consumes given left bytes → (length bytes < 65537 → IsAtEnd left)
+    → IfSome given (λ all. make_up_page argument bytes ≡ make_up_page argument all)
+unfolding make_up_page
+make_up_page-whole argument = input_page-whole (board_made_up (number_in argument))

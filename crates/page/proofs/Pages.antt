@@ -1,10 +1,16 @@
 -- The page of a board and of the input, from what Analyse answers and row 15 says.
 -- Assumes nothing.
-use Prim.Native.Nat.{ℕ, ◌≤◌}
-use mathlib.Core.List.{List}
+use Prim.Native.Nat.{ℕ, ◌≤◌, ◌<◌}
+use mathlib.Core.List.{List, [], ◌++◌, append-nil}
+use mathlib.Core.Logic.{⊎_elim}
 use mathlib.Core.Path.{◌≡◌, refl, sym, ap, ◌∙◌}
 use native.Mathlib.Omega.{arith}
-use lib.ListN.{length}
+use lib.ListN.{length, length-append}
+use Rattle.std.specs.Prelude.{Some, None, IfSome}
+use Rattle.std.specs.Io.KnownBytes.{Consumes, IsAtEnd}
+use Rattle.std.specs.declared.option.Option.{Option}
+use Rattle.folds.proofs.Numbers.{le-or-lt}
+use Rattle.input.proofs.Words.{input_refusal-long}
 use Rattle.board.specs.Layout.{tasks, most_tasks, most_scratch}
 use Rattle.board.specs.Sound.{Sound}
 use Rattle.refusals.specs.declared.Verdict.{Verdict}
@@ -64,3 +70,26 @@ page_of-passed = input_page-passed board_page
 pub page_of-refused : (bytes : List ℕ) (number place : ℕ) → input_refusal bytes ≡ Verdict-as-Refused number place → bad_line number place ≡ page_of bytes
 unfolding page_of
 page_of-refused = input_page-refused board_page
+
+-- the page of what was read of an input: all of it, or at least 65,537 bytes
+module _ (page : List ℕ → List ℕ) where
+  input_page-long : (bytes : List ℕ) → 65537 ≤ length bytes → input_page page bytes ≡ bad_line 15 65537
+  input_page-long bytes h = ap (λ (v : Verdict). page_by page v bytes) (input_refusal-long bytes h)
+
+  same_page : (bytes rest : List ℕ) → (length bytes < 65537 → rest ≡ []) → input_page page bytes ≡ input_page page (bytes ++ rest)
+  same_page bytes rest end =
+      ⊎_elim
+      (λ l. input_page-long bytes l ∙ sym (input_page-long (bytes ++ rest) (omega (arith, length-append bytes rest))))
+      (λ l. ap (input_page page) (sym (append-nil bytes) ∙ ap (λ (more : List ℕ). bytes ++ more) (sym (end l))))
+      (le-or-lt 65537 (length bytes))
+
+  pub input_page-whole : (given left : Option (List ℕ)) (bytes : List ℕ) → Consumes given left bytes → (length bytes < 65537 → IsAtEnd left)
+      → IfSome given (λ all. input_page page bytes ≡ input_page page all)
+  input_page-whole None left bytes taken end = tt
+  input_page-whole (Some all) None bytes taken end = absurd taken
+  input_page-whole (Some all) (Some rest) bytes taken end = same_page bytes rest end ∙ ap (input_page page) (sym taken)
+
+pub page_of-whole : (given left : Option (List ℕ)) (bytes : List ℕ) → Consumes given left bytes → (length bytes < 65537 → IsAtEnd left)
+    → IfSome given (λ all. page_of bytes ≡ page_of all)
+unfolding page_of
+page_of-whole = input_page-whole board_page
