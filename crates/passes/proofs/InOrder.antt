@@ -11,7 +11,7 @@ use lib.ListN.{length, get_or}
 use Rattle.folds.specs.Folds.{tabulate}
 use Rattle.folds.proofs.Numbers.{below_suc}
 use Rattle.folds.proofs.Named.{all_named}
-use Rattle.passes.specs.Passes.{System, pass, passes_by, settled_by, passes_needed, settled, Monotone}
+use Rattle.passes.specs.Passes.{System, passes_by, settled_by, passes_needed, settled, Monotone}
 use Rattle.passes.specs.Visits.{visit, in_turn, tasks_of, in_order, Permutation}
 use Rattle.passes.proofs.Ascending.{Ascending, pass-ascending}
 use Rattle.passes.proofs.Orders.{settled_same, passes_needed-least}
