@@ -1,5 +1,4 @@
 -- `linked_tasks::above` meets its contract.
-use borrow.Author.Rules.{rules}
 use mathlib.Core.Path.{◌∙◌}
 use Rattle.linked_tasks.proofs.above.Goals as goal
 

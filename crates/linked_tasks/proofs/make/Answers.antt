@@ -1,9 +1,8 @@
 -- `linked_tasks::make` meets its contract.
-use borrow.Author.Rules.{rules}
 use native.Mathlib.Nat.{le_antisymm}
 use native.Mathlib.Omega.{arith}
 use mathlib.Core.Path.{refl, subst, ap, ◌∙◌}
-use Prim.Native.Nat.{ℕ, ◌+◌, ◌-◌, ◌≤◌}
+use Prim.Native.Nat.{ℕ, ◌+◌, ◌-◌}
 use Rattle.board.specs.Layout.{most_tasks}
 use Rattle.sums.specs.Links.{LinkedTo}
 use Rattle.sums.proofs.Links.{linked-turn}

@@ -1,5 +1,4 @@
 -- `carried::cores::sides` meets its contract.
-use borrow.Author.Rules.{rules}
 use native.Mathlib.Omega.{arith}
 use mathlib.Core.Path.{ap}
 use Prim.Native.Nat.{◌-◌}

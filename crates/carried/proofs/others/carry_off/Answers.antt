@@ -1,5 +1,4 @@
 -- `carried::others::carry_off` meets its contract.
-use borrow.Author.Rules.{rules}
 use borrow.Author.Tests.{eq-eqb, ne_eqb}
 use mathlib.Core.Path.{sym, ◌∙◌}
 use Rattle.carried.proofs.others.carry_off.Goals as goal

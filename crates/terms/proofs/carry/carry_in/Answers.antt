@@ -1,5 +1,4 @@
 -- `terms::carry::carry_in` meets its contract.
-use borrow.Author.Rules.{rules}
 use lib.Dec.{lit<}
 use native.Mathlib.Omega.{arith}
 use mathlib.Core.Path.{◌∙◌}

@@ -1,5 +1,4 @@
 -- `terms::carry::fitting` meets its contract.
-use borrow.Author.Rules.{rules}
 use lib.Dec.{lit<}
 use native.Mathlib.Omega.{arith}
 use mathlib.Core.Path.{◌∙◌}

@@ -1,5 +1,4 @@
 -- `terms::own::higher_releases` meets its contract: the task is another one, so that its jitter counts.
-use borrow.Author.Rules.{rules}
 use native.Mathlib.Omega.{arith}
 use mathlib.Core.Path.{sym, ◌∙◌, ap₂}
 use Rattle.folds.specs.Folds.{ceil_div}

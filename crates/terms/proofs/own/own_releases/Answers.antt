@@ -1,5 +1,4 @@
 -- `terms::own::own_releases` meets its contract: of the task itself no jitter counts.
-use borrow.Author.Rules.{rules}
 use native.Mathlib.Omega.{arith}
 use mathlib.Core.Path.{refl, sym, ◌∙◌, ap₂}
 use Rattle.folds.specs.Folds.{ceil_div}

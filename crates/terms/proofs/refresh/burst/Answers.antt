@@ -1,5 +1,4 @@
 -- `terms::refresh::burst` meets its contract.
-use borrow.Author.Rules.{rules}
 use native.Mathlib.Omega.{arith}
 use lib.Dec.{lit<}
 use mathlib.Core.Path.{◌∙◌}

@@ -1,5 +1,4 @@
 -- `terms::refresh::refreshes` meets its contract.
-use borrow.Author.Rules.{rules}
 use native.Mathlib.Omega.{arith}
 use mathlib.Core.Path.{◌≡◌, sym, ◌∙◌}
 use Rattle.sums.specs.Sums as spec

@@ -1,5 +1,4 @@
 -- `terms::rows::demand` meets its contract.
-use borrow.Author.Rules.{rules}
 use native.Mathlib.Omega.{arith}
 use mathlib.Core.Path.{◌∙◌}
 use Rattle.sums.proofs.Bounds.{demand-bound}

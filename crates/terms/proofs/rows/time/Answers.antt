@@ -1,5 +1,4 @@
 -- `terms::rows::time` meets its contract.
-use borrow.Author.Rules.{rules}
 use native.Mathlib.Omega.{arith}
 use Rattle.sums.proofs.Bounds.{time-bound}
 use Rattle.terms.proofs.rows.time.Goals as goal

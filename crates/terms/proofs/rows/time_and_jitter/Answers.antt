@@ -1,5 +1,4 @@
 -- `terms::rows::time_and_jitter` meets its contract.
-use borrow.Author.Rules.{rules}
 use native.Mathlib.Omega.{arith}
 use Rattle.sums.proofs.Bounds.{jittered-bound}
 use Rattle.terms.proofs.rows.time_and_jitter.Goals as goal
