@@ -5,7 +5,7 @@
 use Prim.Native.Nat.{ℕ, ◌+◌, ◌-◌, ◌≤◌, ◌<◌}
 use mathlib.Core.Bool.{Bool, true, false, not, cond, false≢true}
 use mathlib.Core.List.{List}
-use mathlib.Core.Path.{◌≡◌, refl, sym, ap, ap₂, subst, ◌∙◌, fun_ext}
+use mathlib.Core.Path.{◌≡◌, refl, sym, ap, ap₂, ◌∙◌, fun_ext}
 use native.Mathlib.Omega.{arith}
 use lib.Dec.{leb, ltb}
 use lib.ListN.{length, get_or}
@@ -36,7 +36,7 @@ use Rattle.answers.specs.declared.Outcome.{Outcome}
 use Rattle.answers.specs.declared.Outcome.TheVariants.{Value, Refused as Outcome-as-Refused}
 use Rattle.answers.specs.declared.MadeUp.TheVariants.{Spent as MadeUp-as-Spent}
 use Rattle.answers.specs.MakeUp.{made_up_at, settled_made_up}
-use Rattle.answers.specs.Answers.{system, unless_refused, figures_answer, overhead_answer, weigh_answer, settled_answer, answer_for, answer_by, analyse_answer, times_left, times_after, table_after, ScratchAfter}
+use Rattle.answers.specs.Answers.{system, unless_refused, figures_answer, overhead_answer, weigh_answer, settled_answer, answer_by, analyse_answer, times_left, times_after, table_after, ScratchAfter}
 use Rattle.answers.specs.Demand.{Analysed}
 use Rattle.answers.proofs.Demand.{times-room}
 use Rattle.answers.proofs.Passes01.{passes-01, settled-01, late-01, demand3-01}

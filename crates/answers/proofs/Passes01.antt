@@ -15,7 +15,7 @@ use Rattle.folds.specs.Folds.{first_from, same_list}
 use Rattle.folds.proofs.Folds.{sum_to-cong}
 use Rattle.folds.proofs.Lists.{tabulate-cong}
 use Rattle.folds.proofs.Searches.{first_from-cong}
-use Rattle.board.specs.Layout.{tasks, pass_limit, deadline}
+use Rattle.board.specs.Layout.{tasks, pass_limit}
 use Rattle.document01.specs.Document01 as old
 use Rattle.document01.specs.Document01.{Board, Reply, times, late, spent}
 use Rattle.sums.proofs.Document01.{bound-01, task_sum-01}

@@ -1,11 +1,10 @@
 -- `one_pass::advance` meets its contract: a word that is read has not been written yet.
-use Prim.Native.Nat.{ℕ, ◌+◌, ◌-◌, ◌≤◌, ◌<◌}
+use Prim.Native.Nat.{ℕ, ◌+◌, ◌≤◌}
 use mathlib.Core.List.{List}
 use mathlib.Core.Path.{◌≡◌, sym, subst, ap, ◌∙◌}
 use native.Mathlib.Nat.{le_antisymm}
 use native.Mathlib.Omega.{arith}
 use lib.ListN.{get_or}
-use borrow.Author.Rules.{rules}
 use Rattle.folds.proofs.Lists.{fill_to-from}
 use Rattle.folds.proofs.Filled.{Filled, filled_none, filled_next, filled-all}
 use Rattle.one_pass.specs.DueTasks.{Unchanged}
@@ -32,7 +31,8 @@ loop-k-preserved c = let a = c.args in
     elim c.if-time-next.branch [
       | then-time-next came ↦ (filled, rw came.due-is (unchanged-joined l.invariant.1 _ came.joined-due.ensures))
       | else-time-next came ↦
-          (filled, rw came.due-is (unchanged-still l.invariant.1 (sym (read l.k (omega arith)) ∙ came.if-time-next.false ∙ read (a.n + l.k) (omega arith)))) ]
+          (filled, rw came.due-is (unchanged-still l.invariant.1 (sym (read l.k (omega arith)) ∙ came.if-time-next.false ∙ read (a.n + l.k) (omega arith))))
+    ]
 
 pub returns : goal.returns
 returns c = let l = c.loop-k in

@@ -1,15 +1,8 @@
-use Prim.Native.Nat.{ℕ, ◌+◌, ◌-◌, ◌≤◌, ◌<◌}
+use Prim.Native.Nat.{ℕ, ◌+◌, ◌-◌}
 use mathlib.Core.List.{List}
-use mathlib.Core.Logic.{⊎_elim}
-use mathlib.Core.Path.{◌≡◌, sym, subst, ap, ◌∙◌}
-use native.Mathlib.Nat.{le_antisymm}
-use native.Mathlib.Omega.{arith}
 use lib.ListN.{get_or}
-use borrow.Author.Rules.{rules}
-use Rattle.folds.proofs.Lists.{fill_to-from}
-use Rattle.folds.proofs.Filled.{Filled, filled_none, filled_next, filled-all}
+use Rattle.folds.proofs.Filled.{Filled}
 use Rattle.one_pass.specs.DueTasks.{Unchanged}
-use Rattle.one_pass.proofs.DueTasks.{unchanged-none, unchanged-still, unchanged-joined}
 use Rattle.one_pass.proofs.advance.Given as goal
 
 -- the next time of task k

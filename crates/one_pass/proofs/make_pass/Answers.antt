@@ -1,12 +1,9 @@
 -- `one_pass::make_pass` meets its contract: the times and the figures stay while the next times are stored.
-use Prim.Native.Nat.{ℕ, ◌-◌, ◌≤◌}
+use Prim.Native.Nat.{ℕ}
 use mathlib.Core.List.{List}
 use mathlib.Core.Path.{sym, ap, ◌∙◌}
 use native.Mathlib.Omega.{arith}
-use lib.ListN.{take}
-use borrow.Author.Rules.{rules}
 use Rattle.passes.specs.Passes.{capped}
-use Rattle.folds.specs.Stored.{Stored}
 use Rattle.folds.proofs.Stored.{stored-none, stored_next, stored-all}
 use Rattle.scratch.proofs.Prepared.{prepared-stored}
 use Rattle.one_pass.specs.System.{system}
@@ -34,7 +31,8 @@ loop-i-preserved c = let s = c in
       stored_next _ _ _ l.invariant.1 (omega (arith, c.requires.0.room.words))
           (elim c.if-has.branch [
             | then-has came ↦ came.next-is ∙ came.next_time-next.ensures ∙ ap (λ (R : List ℕ). capped (system c.args.board.now) R l.i) (times-kept c.requires.0 l.invariant.1)
-            | else-has came ↦ came.next-is ∙ l.invariant.1.before l.i (omega arith) ∙ c.requires.3 l.i (omega arith) (sym c.has.ensures ∙ came.if-has.false) ]),
+            | else-has came ↦ came.next-is ∙ l.invariant.1.before l.i (omega arith) ∙ c.requires.3 l.i (omega arith) (sym c.has.ensures ∙ came.if-has.false)
+          ]),
     )
 
 pub returns : goal.returns

@@ -1,16 +1,8 @@
-use Prim.Native.Nat.{ℕ, ◌-◌, ◌≤◌}
-use mathlib.Core.List.{List}
-use mathlib.Core.Logic.{⊎_elim}
-use mathlib.Core.Path.{sym, ap, ◌∙◌}
-use native.Mathlib.Omega.{arith}
+use Prim.Native.Nat.{◌-◌, ◌≤◌}
 use lib.ListN.{take}
-use borrow.Author.Rules.{rules}
 use Rattle.passes.specs.Passes.{capped}
 use Rattle.folds.specs.Stored.{Stored}
-use Rattle.folds.proofs.Stored.{stored-none, stored_next, stored-all}
-use Rattle.scratch.proofs.Prepared.{prepared-stored}
 use Rattle.one_pass.specs.System.{system}
-use Rattle.one_pass.proofs.Halves.{startable-stored, times-kept}
 use Rattle.one_pass.proofs.make_pass.Given as goal
 
 abbrev pub invariant-loop-i : goal.invariant-loop-i

@@ -2,7 +2,6 @@
 use mathlib.Core.Path.{sym}
 use native.Mathlib.Omega.{arith}
 use lib.Seq.{length-take-le}
-use borrow.Author.Rules.{rules}
 use Rattle.one_pass.proofs.Halves.{startable-times}
 use Rattle.one_pass.proofs.next_time.Goals as goal
 

@@ -1,9 +1,8 @@
 -- `scratch::add_md` meets its contract, row by row.
-use Prim.Native.Nat.{ℕ, ◌+◌, ◌-◌, ◌*◌, ◌≤◌, ◌<◌}
-use mathlib.Core.Path.{◌≡◌, subst}
+use Prim.Native.Nat.{ℕ, ◌<◌}
+use mathlib.Core.Path.{subst}
 use native.Mathlib.Nat.{le_antisymm, suc-mul}
 use native.Mathlib.Omega.{arith}
-use borrow.Author.Rules.{rules}
 use Rattle.board.proofs.Extents.{square-fits}
 use Rattle.scratch.specs.Scratch.{Added}
 use Rattle.figures.proofs.Rows.{row_within}

@@ -1,5 +1,4 @@
 -- `scratch::along` meets its contract: a prepared scratch holds what a sum takes.
-use borrow.Author.Rules.{rules}
 use Rattle.scratch.proofs.Prepared.{sum-input}
 use Rattle.scratch.proofs.along.Goals as goal
 

@@ -1,6 +1,5 @@
 -- `scratch::parts_of` meets its contract.
 use mathlib.Core.Path.{◌∙◌}
-use borrow.Author.Rules.{rules}
 use Rattle.scratch.proofs.Prepared.{makeable}
 use Rattle.scratch.proofs.parts_of.Goals as goal
 

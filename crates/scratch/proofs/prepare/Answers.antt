@@ -1,5 +1,4 @@
 -- `scratch::prepare` meets its contract: the survey's words, with MD added to the rows.
-use borrow.Author.Rules.{rules}
 use Rattle.scratch.proofs.Prepared.{surveyable, addable, prepared}
 use Rattle.scratch.proofs.prepare.Goals as goal
 

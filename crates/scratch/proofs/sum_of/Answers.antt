@@ -1,5 +1,4 @@
 -- `scratch::sum_of` meets its contract.
-use borrow.Author.Rules.{rules}
 use Rattle.scratch.proofs.Prepared.{makeable}
 use Rattle.scratch.proofs.sum_of.Goals as goal
 

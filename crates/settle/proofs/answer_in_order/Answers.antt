@@ -1,5 +1,4 @@
 -- `settle::answer_in_order` meets its contract.
-use borrow.Author.Rules.{rules}
 use Rattle.scratch.proofs.Prepared.{passable}
 use Rattle.answers.proofs.Concluded.{concluded}
 use Rattle.settle.proofs.answer_in_order.Goals as goal

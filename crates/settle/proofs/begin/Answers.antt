@@ -3,7 +3,6 @@ use mathlib.Core.Path.{◌≡◌, sym, subst, ◌∙◌}
 use Prim.Native.Nat.{ℕ}
 use mathlib.Core.List.{List}
 use native.Mathlib.Omega.{arith}
-use borrow.Author.Rules.{rules}
 use Rattle.board.specs.Layout.{tasks}
 use Rattle.scratch.specs.Scratch.{ScratchRoom}
 use Rattle.settle.proofs.Begun.{copied-words, begun-tasks, begun-none}

@@ -1,6 +1,5 @@
 -- `settle::settle` meets its contract.
-use mathlib.Core.Path.{◌≡◌, ◌∙◌}
-use borrow.Author.Rules.{rules}
+use mathlib.Core.Path.{◌∙◌}
 use Rattle.one_pass.proofs.Sums.{system-ascending}
 use Rattle.settle.proofs.Settled.{room-taken, settled-refused, settled-passed}
 use Rattle.settle.proofs.settle.Goals as goal

@@ -1,6 +1,5 @@
 -- `settle::settle_in_order` meets its contract.
-use mathlib.Core.Path.{◌≡◌, ◌∙◌}
-use borrow.Author.Rules.{rules}
+use mathlib.Core.Path.{◌∙◌}
 use Rattle.passes.proofs.InOrder.{in_order-ascending}
 use Rattle.one_pass.proofs.Sums.{system-mono}
 use Rattle.settle.proofs.Settled.{room-taken, settled-refused, settled-passed}

@@ -1,7 +1,6 @@
 -- `answers::taken::sum` meets its contract.
 use mathlib.Core.Path.{◌∙◌}
 use native.Mathlib.Omega.{arith}
-use borrow.Author.Rules.{rules}
 use Rattle.board.proofs.Extents.{scratch-fits}
 use Rattle.answers.proofs.Outcomes.{room_for}
 use Rattle.answers.proofs.taken.sum.Goals as goal

@@ -4,7 +4,6 @@ use mathlib.Core.Bool.{◌&&◌}
 use mathlib.Core.Path.{◌≡◌, ap, ◌∙◌}
 use native.Mathlib.Omega.{arith}
 use lib.Dec.{ltb}
-use borrow.Author.Rules.{rules}
 use Rattle.board.specs.Layout.{tasks, core}
 use Rattle.bitset.specs.Bits.{word_of}
 use Rattle.sums.specs.Links.{is_on}

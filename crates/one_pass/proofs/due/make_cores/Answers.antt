@@ -1,9 +1,8 @@
 -- `one_pass::due::make_cores` meets its contract.
-use Prim.Native.Nat.{ℕ, ◌+◌, ◌-◌, ◌≤◌}
+use Prim.Native.Nat.{ℕ, ◌+◌, ◌-◌}
 use mathlib.Core.Path.{◌≡◌, subst, ◌∙◌}
 use native.Mathlib.Nat.{le_antisymm}
 use native.Mathlib.Omega.{arith}
-use borrow.Author.Rules.{rules}
 use Rattle.board.specs.Layout.{core}
 use Rattle.one_pass.specs.DueTasks.{OnCores}
 use Rattle.one_pass.proofs.DueTasks.{cores-more}

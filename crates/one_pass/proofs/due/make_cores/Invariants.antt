@@ -1,11 +1,5 @@
-use Prim.Native.Nat.{ℕ, ◌+◌, ◌-◌, ◌≤◌}
-use mathlib.Core.Path.{◌≡◌, subst, ◌∙◌}
-use native.Mathlib.Nat.{le_antisymm}
-use native.Mathlib.Omega.{arith}
-use borrow.Author.Rules.{rules}
-use Rattle.board.specs.Layout.{core}
+use Prim.Native.Nat.{◌-◌, ◌≤◌}
 use Rattle.one_pass.specs.DueTasks.{OnCores}
-use Rattle.one_pass.proofs.DueTasks.{cores-more}
 use Rattle.one_pass.proofs.due.make_cores.Given as goal
 
 abbrev pub invariant-loop-k : goal.invariant-loop-k

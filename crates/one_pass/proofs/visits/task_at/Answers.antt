@@ -2,7 +2,6 @@
 use Prim.Native.Nat.{ℕ, ◌-◌}
 use mathlib.Core.Path.{ap}
 use native.Mathlib.Omega.{arith}
-use borrow.Author.Rules.{rules}
 use Rattle.one_pass.proofs.visits.task_at.Goals as goal
 
 pub bounds-order-k : goal.bounds-order-k

@@ -26,7 +26,8 @@ noticed c =
     let earlier = c.loop-k.changed in
     elim c.if-visit_task.branch [
       | then-visit_task came ↦ came.changed-is ∙ sym (ap (λ (t : Bool). t || earlier) came.if-visit_task.true)
-      | else-visit_task came ↦ came.changed-is ∙ sym (ap (λ (t : Bool). t || earlier) came.if-visit_task.false) ]
+      | else-visit_task came ↦ came.changed-is ∙ sym (ap (λ (t : Bool). t || earlier) came.if-visit_task.false)
+    ]
 
 pub visit_all_spec : {M : Type 1} → statement M
 visit_all_spec =

@@ -1,7 +1,6 @@
 -- `one_pass::visits::visit_task` meets its contract: the task is not due, or has its next time, or gets it.
 use mathlib.Core.Path.{refl, sym, ◌∙◌}
 use native.Mathlib.Omega.{arith}
-use borrow.Author.Rules.{rules}
 use Rattle.one_pass.proofs.Visiting.{visited-none, visitable-done, visited-one}
 use Rattle.one_pass.proofs.visits.visit_task.Goals as goal
 

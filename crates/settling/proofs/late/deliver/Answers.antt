@@ -1,6 +1,5 @@
 -- `settling::late::deliver` meets its contract.
 use native.Mathlib.Omega.{arith}
-use borrow.Author.Rules.{rules}
 use Rattle.one_pass.specs.System.{system}
 use Rattle.settling.proofs.Delivered.{delivered-late, delivered-none}
 use Rattle.settling.proofs.late.deliver.Goals as goal

@@ -1,15 +1,7 @@
 use Prim.Native.Nat.{ℕ, ◌-◌, ◌≤◌, ◌<◌}
 use mathlib.Core.Bool.{false}
-use mathlib.Core.Path.{◌≡◌, sym, ◌∙◌}
-use native.Mathlib.Omega.{arith}
-use lib.ListN.{get_or}
-use borrow.Author.Count.{below_more}
-use borrow.Author.Rules.{rules}
-use borrow.Author.Tests.{lt-ltb, le-ltb}
-use Rattle.folds.proofs.Searches.{first_from-here, first_from-none}
-use Rattle.board.specs.Layout.{tasks}
-use Rattle.sums.specs.Sums.{bound}
-use Rattle.passes.specs.Passes.{is_late, first_late}
+use mathlib.Core.Path.{◌≡◌}
+use Rattle.passes.specs.Passes.{is_late}
 use Rattle.one_pass.specs.System.{system}
 use Rattle.settling.proofs.late.first_late.Given as goal
 
