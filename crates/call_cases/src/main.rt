@@ -16,83 +16,98 @@ mod task;
 mod verdict;
 mod weigh;
 
-ghost use Rattle.std.specs.Prelude.{◌<◌, ◌≤◌, length};
+ghost use Rattle.std.specs.Prelude.{◌<◌, ◌≤◌, length, IfOk};
 
+use input::reading::read_full;
 use lines::{Line, read_line};
+use std::io::{Error, Stdin, Stdout};
 
-fn main() {
-    let mut k: u32 = 0;
-    while k < 64 {
-        one_block();
-        k += 1;
+fn main(rt: HostRuntime) -> Result<(), Error> {
+    let mut from = rt.stdin();
+    let mut out = rt.stdout();
+    for _ in 0..64 {
+        one_block(&mut from, &mut out)?;
     }
+    Ok(())
 }
 
-fn one_block() {
-    let mut text = io::large_buffer();
-    let n = io::read_full(0, &mut text);
-    all_lines(&text[..n]);
+fn one_block(from: &mut Stdin, out: &mut Stdout) -> Result<(), Error> {
+    let mut text = [0u8; 65536];
+    let reading = read_full(from, &mut text);
+    all_lines(out, &text[..reading.count])
 }
 
-fn all_lines(text: &[u8]) {
+fn all_lines(out: &mut Stdout, text: &[u8]) -> Result<(), Error> {
     let mut board = [0u32; 16400];
     let mut count = 0;
     let mut at = 0;
     while at < text.len() {
-        let line = one_line(text, at, &mut board, count);
+        let line = one_line(out, text, at, &mut board, count)?;
         count = line.count;
         at = line.next;
     }
+    Ok(())
 }
 
 // Takes the line that starts at from, where the board has count words: how many it has after the line, and where the next line starts.
-fn one_line(text: &[u8], from: usize, board: &mut [u32], count: usize) -> Line
+fn one_line(
+    out: &mut Stdout,
+    text: &[u8],
+    from: usize,
+    board: &mut [u32],
+    count: usize,
+) -> Result<Line, Error>
     requires { (from < length text.now) × (count ≤ length board.old) }
-    ensures { (from < result.next) × (result.count ≤ length board.new) }
+    ensures { IfOk result (λ line. (from < line.next) × (line.count ≤ length board.new)) }
 {
     if text[from] == b'b' {
-        read_line(text, from, board)
+        Ok(read_line(text, from, board))
     } else {
-        let next = answer_line(text, from, &board[..count]);
-        Line { count, next }
+        let next = answer_line(out, text, from, &board[..count])?;
+        Ok(Line { count, next })
     }
 }
 
 // Answers the call of the line that starts at from, and says where the next line starts.
-fn answer_line(text: &[u8], from: usize, board: &[u32]) -> usize
+fn answer_line(out: &mut Stdout, text: &[u8], from: usize, board: &[u32]) -> Result<usize, Error>
     requires { from < length text.now }
-    ensures { from < result }
+    ensures { IfOk result (λ next. from < next) }
 {
     let mut words = [0u32; 1024];
     let line = read_line(text, from, &mut words);
-    let count = line.count;
-    answer(&words[..count], board);
-    line.next
+    answer(out, &words[..line.count], board)?;
+    Ok(line.next)
 }
 
-fn answer<'a>(words: &'a [u32], board: &'a [u32]) {
+fn answer<'a>(out: &mut Stdout, words: &'a [u32], board: &'a [u32]) -> Result<(), Error> {
     if 0 < words.len() {
-        answer_call(words[0], &words[1..], board);
+        answer_call(out, words[0], &words[1..], board)?;
     }
+    Ok(())
 }
 
 // A call is a file of this crate and an arm here; a line with another number is passed over.
-fn answer_call<'a>(call: u32, given: &'a [u32], board: &'a [u32]) {
+fn answer_call<'a>(
+    out: &mut Stdout,
+    call: u32,
+    given: &'a [u32],
+    board: &'a [u32],
+) -> Result<(), Error> {
     match call {
-        1 => verdict::answer(board),
-        2 => tables::figures_of_64(board),
-        3 => weigh::answer(given, board),
-        4 => analyse::answer(board),
-        5 => board_page::answer(board),
-        6 => tables::figures_of_3(board),
-        7 => tables::analyse_of_3(board),
-        8 => overheads::one(given, board),
-        9 => overheads::rows(given, board),
-        10 => analyse::in_order(given, board),
-        11 => tables::in_order_of_3(given, board),
-        12 => make_up::answer(given, board),
-        13 => tables::make_up_of_3(given, board),
-        14 => make_up::page(given, board),
-        _ => {}
+        1 => verdict::answer(out, board),
+        2 => tables::figures_of_64(out, board),
+        3 => weigh::answer(out, given, board),
+        4 => analyse::answer(out, board),
+        5 => board_page::answer(out, board),
+        6 => tables::figures_of_3(out, board),
+        7 => tables::analyse_of_3(out, board),
+        8 => overheads::one(out, given, board),
+        9 => overheads::rows(out, given, board),
+        10 => analyse::in_order(out, given, board),
+        11 => tables::in_order_of_3(out, given, board),
+        12 => make_up::answer(out, given, board),
+        13 => tables::make_up_of_3(out, given, board),
+        14 => make_up::page(out, given, board),
+        _ => Ok(()),
     }
 }

@@ -6,14 +6,14 @@ use crate::analyse::{print_buffers, print_code};
 use crate::print::print_field;
 use crate::task::task;
 use capi::zuzgravel_make_up;
-use libc::STDOUT_FILENO;
+use std::io::{Error, Stdout, Write};
 
 // The most bytes of an argument.
 const MOST: usize = 256;
 
 // The words are the halves of the task's number. The code and the two words of the answer, the six words of the parts, which were all 5, and the times and the
 // records as of call 4.
-pub fn answer(given: &[u32], board: &[u32]) {
+pub fn answer(out: &mut Stdout, given: &[u32], board: &[u32]) -> Result<(), Error> {
     if given.len() == 2 {
         let mut times = [7u32; 6];
         let mut scratch = [0u32; 32];
@@ -29,39 +29,41 @@ pub fn answer(given: &[u32], board: &[u32]) {
             &mut parts,
             &mut answer,
         );
-        print_code(code, answer);
-        print_parts(parts);
-        print_buffers(&times, &records);
+        print_code(out, code, answer)?;
+        print_parts(out, parts)?;
+        print_buffers(out, &times, &records)?;
     }
+    Ok(())
 }
 
-fn print_parts(parts: [u64; 6]) {
-    io::write_all(STDOUT_FILENO, b" |");
-    print_six(parts);
+fn print_parts(out: &mut Stdout, parts: [u64; 6]) -> Result<(), Error> {
+    out.write_all(b" |")?;
+    print_six(out, parts)
 }
 
-pub fn print_six(parts: [u64; 6]) {
-    print_field(parts[0]);
-    print_field(parts[1]);
-    print_field(parts[2]);
-    print_field(parts[3]);
-    print_field(parts[4]);
-    print_field(parts[5]);
+pub fn print_six(out: &mut Stdout, parts: [u64; 6]) -> Result<(), Error> {
+    print_field(out, parts[0])?;
+    print_field(out, parts[1])?;
+    print_field(out, parts[2])?;
+    print_field(out, parts[3])?;
+    print_field(out, parts[4])?;
+    print_field(out, parts[5])
 }
 
 // The words are the bytes of the argument.
-pub fn page(given: &[u32], board: &[u32]) {
+pub fn page(out: &mut Stdout, given: &[u32], board: &[u32]) -> Result<(), Error> {
     if given.len() <= MOST {
         let mut argument = [0u8; MOST];
         let count = bytes_of(given, &mut argument);
-        print_page(&argument[..count], board);
+        print_page(out, &argument[..count], board)?;
     }
+    Ok(())
 }
 
-fn print_page(argument: &[u8], board: &[u32]) {
-    let mut out = [0u8; 512];
-    let size = makeup_page::board_page(&mut out, argument, board);
-    io::write_all(STDOUT_FILENO, &out[..size]);
+fn print_page(out: &mut Stdout, argument: &[u8], board: &[u32]) -> Result<(), Error> {
+    let mut bytes = [0u8; 512];
+    let size = makeup_page::board_page(&mut bytes, argument, board);
+    out.write_all(&bytes[..size])
 }
 
 // Puts each word, modulo 256, as a byte, and answers how many there are.

@@ -1,30 +1,35 @@
 // Answers on standard output.
 use folds::wide;
-use libc::STDOUT_FILENO;
+use std::io::{Error, Stdout, Write};
+
+pub fn print_number(out: &mut Stdout, x: u64) -> Result<(), Error> {
+    let mut digits = [0u8; 20];
+    let count = io::decimal(x, &mut digits);
+    out.write_all(&digits[..count])
+}
 
 // A space, and the number.
-pub fn print_field(x: u64) {
-    io::write_all(STDOUT_FILENO, b" ");
-    io::print_decimal(STDOUT_FILENO, x);
+pub fn print_field(out: &mut Stdout, x: u64) -> Result<(), Error> {
+    out.write_all(b" ")?;
+    print_number(out, x)
 }
 
 // Each of the words as a field.
-pub fn print_fields(words: &[u32]) {
-    let mut k = 0;
-    while k < words.len() {
-        print_field(wide(words[k]));
-        k += 1;
+pub fn print_fields(out: &mut Stdout, words: &[u32]) -> Result<(), Error> {
+    for word in words {
+        print_field(out, wide(*word))?;
     }
+    Ok(())
 }
 
-pub fn end_line() {
-    io::write_all(STDOUT_FILENO, b"\n");
+pub fn end_line(out: &mut Stdout) -> Result<(), Error> {
+    out.write_all(b"\n")
 }
 
 // The line of a refusal: `bad`, its number and its place.
-pub fn print_refusal(number: usize, place: usize) {
-    io::write_all(STDOUT_FILENO, b"bad");
-    print_field(number as u64);
-    print_field(place as u64);
-    end_line();
+pub fn print_refusal(out: &mut Stdout, number: usize, place: usize) -> Result<(), Error> {
+    out.write_all(b"bad")?;
+    print_field(out, number as u64)?;
+    print_field(out, place as u64)?;
+    end_line(out)
 }

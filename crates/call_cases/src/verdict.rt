@@ -1,16 +1,12 @@
 // Call 1: the verdict of `refusals::check`.
 use crate::print::print_refusal;
-use libc::STDOUT_FILENO;
 use refusals::Verdict;
+use std::io::{Error, Stdout, Write};
 
 // `ok`, or `bad` with number and place.
-pub fn answer(board: &[u32]) {
+pub fn answer(out: &mut Stdout, board: &[u32]) -> Result<(), Error> {
     match refusals::check(board) {
-        Verdict::Passed => {
-            io::write_all(STDOUT_FILENO, b"ok\n");
-        }
-        Verdict::Refused(number, place) => {
-            print_refusal(number, place);
-        }
+        Verdict::Passed => out.write_all(b"ok\n"),
+        Verdict::Refused(number, place) => print_refusal(out, number, place),
     }
 }

@@ -1,2 +1,0 @@
--- What the proofs of the functions that lend a table share.
-pub mod Walk
