@@ -19,8 +19,8 @@ use refusals::Verdict;
 use std::io::{Error, Read, Write};
 use text::lines::pair_line;
 
-// Reads the input until its end, a failed read or 65,537 bytes, and writes the page of the task that the argument numbers: answers whether no read failed, or how
-// the writing did.
+// Reads the input until its end, a failed read or 65,537 bytes, and writes the page of the task that the argument numbers. Answers whether no read failed; a
+// failed write is the error.
 pub fn run<R: Read, W: Write>(argument: &[u8], from: &mut R, to: &mut W) -> Result<bool, Error>
     ensures { IfOk result (Answered (make_up_page argument.now) (R.remaining from.old) (R.remaining from.new) (W.contents to.old) (W.contents to.new)) }
 {

@@ -16,7 +16,7 @@ use refusals::Verdict;
 use std::io::{Error, Read, Write};
 use text::lines::pair_line;
 
-// Reads the input until its end, a failed read or 65,537 bytes, and writes its page: answers whether no read failed, or how the writing did.
+// Reads the input until its end, a failed read or 65,537 bytes, and writes its page. Answers whether no read failed; a failed write is the error.
 pub fn run<R: Read, W: Write>(from: &mut R, to: &mut W) -> Result<bool, Error>
     ensures { IfOk result (Answered page_of (R.remaining from.old) (R.remaining from.new) (W.contents to.old) (W.contents to.new)) }
 {
