@@ -1,8 +1,7 @@
 -- `works::figures` meets its contract.
 use mathlib.Core.Bool.{false≢true}
-use mathlib.Core.Path.{◌≡◌, sym, ◌∙◌}
+use mathlib.Core.Path.{sym, ◌∙◌}
 use native.Mathlib.Omega.{arith}
-use borrow.Author.Rules.{rules}
 use Rattle.figures.proofs.Fillable.{fillable-tasks, fillable-none, surveyed-tasks}
 use Rattle.checks.proofs.Accepted.{figures-taken}
 use Rattle.answers.specs.Answers.{figures_answer}

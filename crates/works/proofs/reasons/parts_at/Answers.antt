@@ -5,7 +5,6 @@ use Prim.Native.Nat.{ℕ}
 use native.Mathlib.Omega.{arith}
 use lib.ListN.{take}
 use lib.Seq.{length-take-le}
-use borrow.Author.Rules.{rules}
 use Rattle.board.specs.Layout.{tasks}
 use Rattle.sums.specs.SixParts.{reason}
 use Rattle.passes.specs.Passes.{settled}

@@ -1,11 +1,10 @@
 -- `works::reasons::reason_of` meets its contract. The invariant: of the parts before k the one at `at` is the largest, and the earliest of equals.
-use Prim.Native.Nat.{ℕ, ◌-◌, ◌≤◌}
+use Prim.Native.Nat.{ℕ}
 use mathlib.Core.List.{List}
 use mathlib.Core.Path.{◌≡◌, subst₂}
 use native.Mathlib.Nat.{le_antisymm}
 use native.Mathlib.Omega.{arith}
 use lib.ListN.{get_or}
-use borrow.Author.Rules.{rules}
 use Rattle.folds.specs.Folds.{Largest}
 use Rattle.folds.proofs.Largest.{largest-one, largest-same, largest-next}
 use Rattle.sums.proofs.SixParts.{reason-is}
@@ -21,11 +20,12 @@ bounds-all-at c = let l = c.loop-k in omega (arith, l.invariant.1.below, l.invar
 
 pub loop-k-preserved : goal.loop-k-preserved
 loop-k-preserved c = let l = c.loop-k in (
-      omega arith,
-      elim c.if-all-at.branch [
-        | then-all-at w ↦ rw w.at-is (largest-next l.invariant.1 (omega (arith, w.if-all-at.true)))
-        | else-all-at w ↦ rw w.at-is (largest-same l.invariant.1 (omega (arith, w.if-all-at.false))) ],
-    )
+  omega arith,
+  elim c.if-all-at.branch [
+    | then-all-at w ↦ rw w.at-is (largest-next l.invariant.1 (omega (arith, w.if-all-at.true)))
+    | else-all-at w ↦ rw w.at-is (largest-same l.invariant.1 (omega (arith, w.if-all-at.false)))
+  ],
+)
 
 pub overflow_cast-result : goal.overflow_cast-result
 overflow_cast-result c = let l = c.loop-k in omega (arith, l.invariant.1.below, l.invariant.0)
