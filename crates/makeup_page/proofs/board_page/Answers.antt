@@ -11,7 +11,7 @@ made_up_page-requires c =
 
 pub returns-clause-put : goal.returns-clause-put
 returns-clause-put c =
-    put_same (board_made_up-is _ c.number_in.ensures c.make_up_alone-made.ensures.answer) c.made_up_page.ensures
+    put_same (board_made_up-is _ c.number_in-task.ensures c.make_up_alone-made.ensures.answer) c.made_up_page.ensures
 
 pub returns-clause-prefix_len : goal.returns-clause-prefix_len
 returns-clause-prefix_len c = put-counts c.made_up_page.ensures
