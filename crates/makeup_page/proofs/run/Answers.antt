@@ -12,5 +12,5 @@ returns g c =
       reading.ensures.taken,
       subst (Appends _ _) c.page_of-size.ensures.out_after c.in_ok-write_all.ensures.bytes,
       λ whole. make_up_page-whole c.args.argument.now _ _ bytes reading.ensures.taken
-      (λ (few : length bytes < 65537). reading.ensures.ended whole (search rules)),
+          (λ (few : length bytes < 65537). reading.ensures.ended whole (search rules)),
     )
