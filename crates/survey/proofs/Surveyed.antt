@@ -6,13 +6,32 @@ use mathlib.Core.List.{List}
 use mathlib.Core.Path.{◌≡◌, sym, ap, ◌∙◌}
 use native.Mathlib.Decide.{ℕ_discrete}
 use native.Mathlib.Omega.{arith}
-use lib.ListN.{get_or}
+use lib.ListN.{length, get_or, set, length-set}
+use lib.Seq.{get_or-set_same, get_or-set_other}
+use Rattle.folds.specs.Stored.{Stored}
 use Rattle.figures.specs.Figures.{task_pd, task_md}
 use Rattle.figures.specs.Overhead.{γ}
 use Rattle.figures.specs.Rows.{Evicting}
 use Rattle.figures.specs.Survey.{Surveyed, Overheads, Written}
 use Rattle.figures.proofs.Rows.{row_within}
 use Rattle.survey.proofs.Rows.{Row, row-overhead}
+
+-- two words stored, and then m words of a row
+pub stored : (n i p q m : ℕ) {at : ℕ} (rows : Bool) (row words after : List ℕ) → i < n → 4 * n ≤ length words → (rows ≡ true → n ≤ m) → at ≡ 4 * n + i * n
+    → Stored (λ j. get_or row j 0) at m (set (set words (2 * n + i) p) (3 * n + i) q) after
+    → Written n i p q rows row words after
+stored n i p q m {at} rows row words after task room all e copy = record {
+  pd = copy.before (2 * n + i) (omega arith)
+      ∙ get_or-set_other (set words (2 * n + i) p) (3 * n + i) (2 * n + i) q 0 (λ s. omega arith)
+      ∙ get_or-set_same words (2 * n + i) p 0 (omega arith);
+  md = copy.before (3 * n + i) (omega arith)
+      ∙ get_or-set_same (set words (2 * n + i) p) (3 * n + i) q 0 (omega (arith, length-set words (2 * n + i) p));
+  row = λ wanted j h.
+      let place : 4 * n + (i * n + j) ≡ at + j = omega arith in
+      ap (λ (w : ℕ). get_or after w 0) place ∙ copy.part j (let less : j < m = omega (arith, all wanted) in less);
+  kept = λ w h past-pd past-md.
+      copy.before w (omega arith) ∙ get_or-set_other (set words (2 * n + i) p) (3 * n + i) w q 0 past-md ∙ get_or-set_other words (2 * n + i) w p 0 past-pd;
+}
 
 module _ (b : List ℕ) (n i p q : ℕ) (rows : Bool) (row words words' : List ℕ) (task : i < n) (written : Written n i p q rows row words words') where
   -- the figures of one task more

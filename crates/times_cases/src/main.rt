@@ -3,7 +3,7 @@
 
 use std::env::Env;
 use std::fs::File;
-use std::io::{Error, ErrorKind, Write};
+use std::io::{Error, Write};
 use std::str;
 
 // Answers one file, and says whether there was an argument.
@@ -15,11 +15,14 @@ fn one_case(rt: &HostRuntime, index: usize) -> Result<bool, Error> {
     }
 }
 
-// Answers the file of a name, and says whether it could be opened; a name that is no text is an error.
+// Answers the file of a name, and says whether it could be opened; a name that is no text names no file.
 fn named_case(rt: &HostRuntime, name: &[u8]) -> Result<bool, Error> {
     match str::from_utf8(name) {
         Ok(path) => opened_case(rt, path),
-        Err(_) => Err(Error::from(ErrorKind::InvalidInput)),
+        Err(_) => {
+            eprintln!(rt; "an argument is no text, so that no file has its name")?;
+            Ok(false)
+        }
     }
 }
 
