@@ -1,3 +1,2 @@
 -- The laws of the page of an answer.
 pub mod Lines
-pub mod Answers

@@ -1,10 +1,12 @@
 -- The page of an answer ("The program's page"): the bytes of its lines.
 -- Assumes nothing.
-use Rattle.std.specs.Prelude.{ℕ, ◌+◌, List, [], ◌∷◌, ◌++◌, get_or}
+use Rattle.std.specs.Prelude.{ℕ, ◌+◌, List, [], ◌∷◌, ◌++◌, get_or, Result, Ok, Err}
 use Rattle.folds.specs.Folds.{join_to}
 use Rattle.board.specs.Layout.{tasks, core, deadline, pass_limit}
+use Rattle.refusals.specs.Refusals.{row_number}
+use Rattle.refusals.specs.declared.Refusal.{Refusal}
 use Rattle.answers.specs.declared.Answer.{Answer}
-use Rattle.answers.specs.declared.Answer.TheVariants.{Times, Late, Spent, Refused}
+use Rattle.answers.specs.declared.Answer.TheVariants.{Times, Late, Spent}
 use Rattle.text.specs.Text.{decimal, line, ok_text, late_text, spent_text, bad_text}
 
 -- task, core, time, deadline
@@ -19,8 +21,8 @@ abbrev pub bad_line : ℕ → ℕ → List ℕ
 bad_line number place = line (bad_text ∷ decimal number ∷ decimal place ∷ [])
 
 -- the page of an answer r, with R in the times buffer
-unfoldable pub answer_page : List ℕ → List ℕ → Answer → List ℕ
-answer_page b R (Times passes) = line (ok_text ∷ decimal (tasks b) ∷ decimal passes ∷ []) ++ task_lines b R (tasks b)
-answer_page b R (Late task passes) = line (late_text ∷ decimal task ∷ decimal passes ∷ [])
-answer_page b R Spent = line (spent_text ∷ decimal (pass_limit b) ∷ [])
-answer_page b R (Refused number place) = bad_line number place
+unfoldable pub answer_page : List ℕ → List ℕ → Result Answer Refusal → List ℕ
+answer_page b R (Ok (Times passes)) = line (ok_text ∷ decimal (tasks b) ∷ decimal passes ∷ []) ++ task_lines b R (tasks b)
+answer_page b R (Ok (Late task passes)) = line (late_text ∷ decimal task ∷ decimal passes ∷ [])
+answer_page b R (Ok Spent) = line (spent_text ∷ decimal (pass_limit b) ∷ [])
+answer_page b R (Err refusal) = bad_line (row_number refusal.row) refusal.place

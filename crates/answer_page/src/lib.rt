@@ -1,64 +1,87 @@
-// The page of an answer, put into a lent buffer.
+// The page of an answer.
 #![tactic(auto)]
 
-ghost use Rattle.std.specs.Prelude.{◌+◌, ◌*◌, ◌≤◌, ◌<◌, length};
-ghost use Rattle.text.specs.Buffer.{Put};
-ghost use Rattle.answer_page.specs.AnswerPage.{task_line, task_lines, answer_page};
-ghost use Rattle.answer_page.specs.Printable.{Printable};
+ghost use Rattle.std.specs.Prelude.{◌≡◌, ◌++◌, ◌+◌, ◌≤◌, ◌<◌, length, Ok};
 ghost use Rattle.board.specs.Layout.{tasks};
-ghost use Rattle.board.specs.Sound.{Sound};
+ghost use Rattle.refusals.specs.Refusals.{row_number};
 ghost use Rattle.answers.specs.declared.Answer.TheVariants.{Times};
+ghost use Rattle.answer_page.specs.AnswerPage.{task_line, task_lines, bad_line, answer_page};
+ghost use Rattle.answer_page.specs.Printable.{Printable};
 
 use answers::Answer;
-use board::fields;
-use folds::{index, wide};
+use board::Board;
+use refusals::Refusal;
 use text::lines::{number_line, pair_line};
-use text::put_word;
+use text::{Page, put_number};
 
 // Puts the line of task k: four words, at most 44 bytes.
-fn task_line(out: &mut [u8], at: usize, board: &[u32], times: &[u32], k: usize) -> usize
-    requires { Sound board.now × (k < tasks board.now) × (k < length times.now) × (at + 44 ≤ length out.old) }
-    ensures { Put out.old at (task_line board.now times.now k) out.new result × (result ≤ at + 44) }
+#[tactic(auto, using(text::proofs::Fields::put_more, text::proofs::Fields::put_last))]
+fn task_line<const N: usize>(page: &mut Page<N>, board: &Board, times: &[u32], k: usize)
+    requires { (k < tasks board.now) × (k < length times.now) × (length page.old.items + 54 ≤ N) }
+    ensures put { page.new.items ≡ page.old.items ++ task_line board.now times.now k }
+    ensures most { length page.new.items ≤ length page.old.items + 44 }
 {
-    let first = put_word(out, at, k as u32 + 1, b' ');
-    let second = put_word(out, first, fields::core(board, k), b' ');
-    let third = put_word(out, second, times[k], b' ');
-    put_word(out, third, fields::deadline(board, k), b'\n')
+    board.sound();
+    put_number(page, k as u64 + 1, b' ');
+    put_number(page, u64::from(board.core(k)), b' ');
+    put_number(page, u64::from(times[k]), b' ');
+    put_number(page, u64::from(board.deadline(k)), b'\n');
 }
 
-// Puts the lines of the first n tasks.
-fn task_lines(out: &mut [u8], at: usize, board: &[u32], times: &[u32], n: usize) -> usize
-    requires { Sound board.now × (n ≤ tasks board.now) × (n ≤ length times.now) × (at + 44 * n ≤ length out.old) }
-    ensures { Put out.old at (task_lines board.now times.now n) out.new result }
+// Puts the lines of all tasks.
+#[tactic(auto, using(text::proofs::Fields::joined))]
+fn task_lines<const N: usize>(page: &mut Page<N>, board: &Board, times: &[u32])
+    requires { (tasks board.now ≤ length times.now) × (length page.old.items + 2826 ≤ N) }
+    ensures { page.new.items ≡ page.old.items ++ task_lines board.now times.now (tasks board.now) }
 {
-    let mut next = at;
-    let mut k = 0;
-    while k < n {
-        next = task_line(out, next, board, times, k);
-        k += 1;
+    for k in 0..board.tasks() as usize {
+        task_line(page, board, times, k);
     }
-    next
 }
 
 // Puts the page of times: the number of tasks and the passes, then a line a task.
-fn times_page(out: &mut [u8], board: &[u32], times: &[u32], passes: u32) -> usize
-    requires { Sound board.now × (tasks board.now ≤ length times.now) × (4096 ≤ length out.old) }
-    ensures { Put out.old 0 (answer_page board.now times.now (Times passes)) out.new result }
+#[tactic(auto, using(text::proofs::Fields::put_then), unfolding(crate::specs::AnswerPage::answer_page))]
+fn times_page<const N: usize>(page: &mut Page<N>, board: &Board, times: &[u32], passes: u32)
+    requires { (tasks board.now ≤ length times.now) × (length page.old.items + 4096 ≤ N) }
+    ensures { page.new.items ≡ page.old.items ++ answer_page board.now times.now (Ok (Times passes)) }
 {
-    let n = index(fields::tasks(board));
-    let next = pair_line(out, 0, b"ok", n as u64, wide(passes));
-    task_lines(out, next, board, times, n)
+    pair_line(page, b"ok", u64::from(board.tasks()), u64::from(passes));
+    task_lines(page, board, times);
 }
 
-// Puts the page of an answer at the start of the buffer, with the times of its tasks in `times`.
-pub fn answer_page(out: &mut [u8], board: &[u32], times: &[u32], answer: Answer) -> usize
-    requires { Printable board.now times.now answer × (4096 ≤ length out.old) }
-    ensures { Put out.old 0 (answer_page board.now times.now answer) out.new result }
+// Puts the line of a refusal: at most 46 bytes.
+pub fn refusal_line<const N: usize>(page: &mut Page<N>, refusal: Refusal)
+    requires { length page.old.items + 46 ≤ N }
+    ensures { page.new.items ≡ page.old.items ++ bad_line (row_number refusal.row) refusal.place }
+{
+    pair_line(
+        page,
+        b"bad",
+        refusal.row.number() as u64,
+        refusal.place as u64,
+    );
+}
+
+// Puts the page of an answer, with the times of its tasks in `times`.
+#[tactic(auto, unfolding(crate::specs::AnswerPage::answer_page))]
+pub fn answer_page<const N: usize>(
+    page: &mut Page<N>,
+    board: &[u32],
+    times: &[u32],
+    answer: Result<Answer, Refusal>,
+)
+    requires { Printable board.now times.now answer × (length page.old.items + 4096 ≤ N) }
+    ensures { page.new.items ≡ page.old.items ++ answer_page board.now times.now answer }
 {
     match answer {
-        Answer::Times(passes) => times_page(out, board, times, passes),
-        Answer::Late(task, passes) => pair_line(out, 0, b"late", wide(task), wide(passes)),
-        Answer::Spent => number_line(out, 0, b"spent", wide(fields::pass_limit(board))),
-        Answer::Refused(number, place) => pair_line(out, 0, b"bad", number as u64, place as u64),
+        Ok(Answer::Times(passes)) => times_page(page, &Board::of(board), times, passes),
+        Ok(Answer::Late(task, passes)) => pair_line(
+            page,
+            b"late",
+            u64::from(task),
+            u64::from(passes),
+        ),
+        Ok(Answer::Spent) => number_line(page, b"spent", u64::from(Board::of(board).pass_limit())),
+        Err(refusal) => refusal_line(page, refusal),
     }
 }

@@ -3,20 +3,18 @@
 use Prim.Native.Nat.{ℕ, ◌+◌, ◌≤◌, ◌<◌}
 use mathlib.Core.Bool.{Bool, true, false, cond}
 use mathlib.Core.List.{List}
-use mathlib.Core.Path.{◌≡◌, refl, sym, ap, ap₂, ◌∙◌}
+use Rattle.std.specs.Prelude.{Option, Some, None}
+use mathlib.Core.Path.{◌≡◌, refl, sym, ap, ◌∙◌}
 use native.Mathlib.Omega.{arith}
 use lib.Dec.{ltb}
-use lib.ListN.{get_or, take}
+use lib.ListN.{take}
 use borrow.Author.Tests.{lt-ltb, le-ltb, ltb-true, ltb-false}
-use Rattle.folds.specs.Folds.{fill_to}
 use Rattle.board.specs.Layout.{tasks, pass_limit}
 use Rattle.passes.specs.Passes.{System, passes_by, settled_by, first_late}
-use Rattle.settling.specs.declared.Passes.{Passes}
-use Rattle.settling.specs.declared.Passes.TheVariants.{Needed, Over}
 use Rattle.settling.specs.Settling.{passes_of, Ended}
 use Rattle.settling.proofs.Ends.{over-is, needed-is}
-use Rattle.settling.specs.Delivered.{delivered}
-use Rattle.settling.proofs.Delivered.{delivered-late, delivered-none}
+use Rattle.settling.specs.Delivered.{late_task, delivered}
+use Rattle.settling.proofs.Delivered.{late_task-some, late_task-none}
 use Rattle.answers.specs.declared.Answer.{Answer}
 use Rattle.answers.specs.declared.Answer.TheVariants.{Times, Late, Spent}
 use Rattle.answers.specs.Answers.{system, settled_answer, times_left}
@@ -24,12 +22,12 @@ use Rattle.answers.specs.Concluded.{answer_of, times_of, Concluded}
 
 -- ---- from the passes that were made
 
-module _ (S : System) (R : List ℕ) {ps : Passes} {p n late : ℕ} (made : ps ≡ Needed p) (all : n ≡ S.count) (found : late ≡ first_late S R) where
-  pub answer-late : late < n → Late (late + 1) p ≡ answer_of S ps R
-  answer-late h = rw (made, sym found, lt-ltb late S.count (omega (arith, all)))
+module _ (S : System) (R : List ℕ) {ps : Option ℕ} {p : ℕ} (made : ps ≡ Some p) where
+  pub answer-late : {late : ℕ} → late_task S R ≡ Some late → Late (late + 1) p ≡ answer_of S ps R
+  answer-late {late} found = let at = late_task-some S R late found in rw (made, at.0, lt-ltb late S.count at.1)
 
-  pub answer-times : n ≤ late → Times p ≡ answer_of S ps R
-  answer-times h = rw (made, sym found, le-ltb late S.count (omega (arith, all)))
+  pub answer-times : late_task S R ≡ None → Times p ≡ answer_of S ps R
+  answer-times found = rw (made, le-ltb (first_late S R) S.count (late_task-none S R found))
 
   pub times-given : {new : List ℕ} (old : List ℕ) → new ≡ delivered S R old → new ≡ times_of S ps R old
   times-given old given = rw made given
@@ -40,7 +38,7 @@ module _ (b : List ℕ) (step : List ℕ → List ℕ) (old : List ℕ) {limit :
   by-limit : {r : Answer} → r ≡ settled_answer (system b) step limit → r ≡ settled_answer (system b) step (pass_limit b)
   by-limit e = e ∙ ap (settled_answer (system b) step) limit_is
 
-  concluded-spent : passes_of (system b) step limit ≡ Over → Concluded b step old w Spent old w'
+  concluded-spent : passes_of (system b) step limit ≡ None → Concluded b step old w Spent old w'
   unfolding settled_answer times_left
   concluded-spent e = record {
     answer = by-limit (rw (lt-ltb limit (passes_by (system b) step) (over-is (system b) step limit e)));
@@ -50,7 +48,7 @@ module _ (b : List ℕ) (step : List ℕ → List ℕ) (old : List ℕ) {limit :
   }
 
   -- n tasks settled after p passes, and `late` is the first late one
-  module _ {p n late : ℕ} {new : List ℕ} (tasks-of : n ≡ tasks b) (needed : passes_of (system b) step limit ≡ Needed p)
+  module _ {p n late : ℕ} {new : List ℕ} (tasks-of : n ≡ tasks b) (needed : passes_of (system b) step limit ≡ Some p)
       (found : late ≡ first_late (system b) (take n w')) (given : new ≡ delivered (system b) (take n w') old) where
     count : (passes_by (system b) step ≡ p) × (p ≤ limit)
     count = needed-is (system b) step limit p needed
@@ -65,31 +63,28 @@ module _ (b : List ℕ) (step : List ℕ → List ℕ) (old : List ℕ) {limit :
     first = sym (found ∙ ap (first_late (system b)) same)
 
     concluded-late : late < n → Concluded b step old w (Late (late + 1) p) new w'
-    unfolding settled_answer times_left
+    unfolding settled_answer times_left delivered
     concluded-late h = record {
       answer = by-limit (rw (count.0, first, le-ltb limit p count.1, lt-ltb late (tasks b) (omega arith)));
-      given = given ∙ sym (delivered-late (system b) (take n w') tasks-of found old h);
+      given = rw (sym found, lt-ltb late (tasks b) (omega arith)) at given;
       size = ended.size;
       settled = λ _. reached;
     }
 
     concluded-times : n ≤ late → Concluded b step old w (Times p) new w'
-    unfolding settled_answer times_left
+    unfolding settled_answer times_left delivered
     concluded-times h = record {
       answer = by-limit (rw (count.0, first, le-ltb limit p count.1, le-ltb late (tasks b) (omega arith)));
-      given =
-          given
-          ∙ sym (delivered-none (system b) (take n w') tasks-of found old h refl)
-          ∙ ap₂ (λ (l : List ℕ) (m : ℕ). fill_to (λ k. get_or l k 0) m old) same tasks-of;
+      given = rw (sym found, le-ltb late (tasks b) (omega arith), same) at given;
       size = ended.size;
       settled = λ _. reached;
     }
 
   -- as `conclude` answers and leaves it
-  pub concluded : (ps : Passes) {n : ℕ} {r : Answer} {new : List ℕ} → n ≡ tasks b → ps ≡ passes_of (system b) step limit → r ≡ answer_of (system b) ps (take n w')
+  pub concluded : (ps : Option ℕ) {n : ℕ} {r : Answer} {new : List ℕ} → n ≡ tasks b → ps ≡ passes_of (system b) step limit → r ≡ answer_of (system b) ps (take n w')
       → new ≡ times_of (system b) ps (take n w') old → Concluded b step old w r new w'
-  concluded Over all made answer given = rw (answer, given) (concluded-spent (sym made))
-  concluded (Needed p) {n} {new = new} all made answer given = rw answer (go (ltb (first_late (system b) (take n w')) (tasks b)) refl)
+  concluded None all made answer given = rw (answer, given) (concluded-spent (sym made))
+  concluded (Some p) {n} {new = new} all made answer given = rw answer (go (ltb (first_late (system b) (take n w')) (tasks b)) refl)
     where
       first : ℕ
       first = first_late (system b) (take n w')

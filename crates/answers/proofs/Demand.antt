@@ -5,6 +5,7 @@
 use Prim.Native.Nat.{ℕ, ◌+◌, ◌≤◌, ◌<◌}
 use mathlib.Core.Bool.{Bool, true, false, cond}
 use mathlib.Core.List.{List}
+use Rattle.std.specs.Prelude.{Result, Ok, Err}
 use mathlib.Core.Path.{◌≡◌, refl, sym, ap, subst, ◌∙◌}
 use native.Mathlib.Omega.{arith}
 use lib.Dec.{ltb}
@@ -14,8 +15,8 @@ use borrow.Author.Tests.{ltb-true, ltb-false}
 use Rattle.folds.specs.Folds.{fill_to}
 use Rattle.folds.proofs.Lists.{length-fill_to, fill_to-below}
 use Rattle.board.specs.Layout.{tasks, pass_limit}
-use Rattle.refusals.specs.declared.Verdict.{Verdict}
-use Rattle.refusals.specs.declared.Verdict.TheVariants.{Passed}
+use Rattle.refusals.specs.declared.Refusal.{Refusal}
+use Rattle.refusals.specs.Refusals.{Verdict}
 use Rattle.passes.specs.Passes.{System, pass, passes_by, settled_by, settled, first_late, SmallestLate}
 use Rattle.passes.proofs.Ascending.{Ascending}
 use Rattle.passes.proofs.Settling.{settled-length}
@@ -24,7 +25,7 @@ use Rattle.passes.proofs.Orders.{settled_same}
 use Rattle.one_pass.proofs.Sums.{system-ascending}
 use Rattle.checks.proofs.Accepted.{analyse-taken}
 use Rattle.answers.specs.declared.Answer.{Answer}
-use Rattle.answers.specs.declared.Answer.TheVariants.{Times, Late, Spent, Refused}
+use Rattle.answers.specs.declared.Answer.TheVariants.{Times, Late, Spent}
 use Rattle.checks.specs.CallRefusals.{analyse_refusal}
 use Rattle.answers.specs.Answers.{system, settled_answer, answer_by, analyse_answer, times_left, times_after}
 use Rattle.answers.specs.Demand.{Demand3By, Demand3}
@@ -32,7 +33,7 @@ use Rattle.answers.specs.Demand.{Demand3By, Demand3}
 module _ {S : System} {step : List ℕ → List ℕ} (up : Ascending S step) where
   -- the three answers
 
-  when-spent : (limit : ℕ) (new : List ℕ) → limit < passes_by S step → Demand3By S step limit Spent new
+  when-spent : (limit : ℕ) (new : List ℕ) → limit < passes_by S step → Demand3By S step limit (Ok Spent) new
   when-spent limit new over =
       record {
         spent = (λ _. over, λ _. refl);
@@ -43,7 +44,7 @@ module _ {S : System} {step : List ℕ → List ℕ} (up : Ascending S step) whe
       }
 
   when-late : (same : settled_by S step ≡ settled S) → Ascending S (pass S) → (limit : ℕ) (new : List ℕ) → passes_by S step ≤ limit → first_late S (settled_by S step) < S.count
-      → Demand3By S step limit (Late (first_late S (settled_by S step) + 1) (passes_by S step)) new
+      → Demand3By S step limit (Ok (Late (first_late S (settled_by S step) + 1) (passes_by S step))) new
   when-late same all limit new le h =
       record {
         spent = (λ e. let z : ◌≡◌ {A = ℕ} 0 1 = cc in absurd (omega arith), λ l. absurd (omega arith));
@@ -57,7 +58,7 @@ module _ {S : System} {step : List ℕ → List ℕ} (up : Ascending S step) whe
       smallest = subst (λ (R : List ℕ). SmallestLate S (first_late S R)) (sym same) (first_late-smallest all (subst (λ (R : List ℕ). first_late S R < S.count) same h))
 
   when-settled : (limit : ℕ) (new : List ℕ) → passes_by S step ≤ limit → S.count ≤ first_late S (settled_by S step)
-      → take S.count new ≡ settled_by S step → Demand3By S step limit (Times (passes_by S step)) new
+      → take S.count new ≡ settled_by S step → Demand3By S step limit (Ok (Times (passes_by S step))) new
   when-settled limit new le h holds =
       record {
         spent = (λ e. let z : ◌≡◌ {A = ℕ} 0 1 = cc in absurd (omega arith), λ l. absurd (omega arith));
@@ -84,12 +85,12 @@ module _ (b old : List ℕ) {step : List ℕ → List ℕ} (up : Ascending (syst
       get_or-take (tasks b) (fill_to f (tasks b) old) i 0 below ∙ fill_to-below f old 0 (tasks b) i below (omega arith))
 
   pub settled-demand3 : tasks b ≤ length old
-      → Demand3By (system b) step (pass_limit b) (settled_answer (system b) step (pass_limit b)) (times_left (system b) step (settled_answer (system b) step (pass_limit b)) old)
+      → Demand3By (system b) step (pass_limit b) (Ok (settled_answer (system b) step (pass_limit b))) (times_left (system b) step (Ok (settled_answer (system b) step (pass_limit b))) old)
   unfolding settled_answer times_left
   settled-demand3 room = by-limit (ltb (pass_limit b) (passes_by (system b) step)) refl
     where
       Is : Answer → Type 0
-      Is r = Demand3By (system b) step (pass_limit b) r (times_left (system b) step r old)
+      Is r = Demand3By (system b) step (pass_limit b) (Ok r) (times_left (system b) step (Ok r) old)
 
       by-late : passes_by (system b) step ≤ pass_limit b → (t : Bool) → ltb (first_late (system b) (settled_by (system b) step)) (tasks b) ≡ t
           → Is (cond t (Late (first_late (system b) (settled_by (system b) step) + 1) (passes_by (system b) step)) (Times (passes_by (system b) step)))
@@ -103,25 +104,25 @@ module _ (b old : List ℕ) {step : List ℕ → List ℕ} (up : Ascending (syst
       by-limit false e = by-late (ltb-false (pass_limit b) (passes_by (system b) step) e) (ltb (first_late (system b) (settled_by (system b) step)) (tasks b)) refl
 
   -- passes by another step leave the times buffer as Analyse's do, since they settle at the same times
-  pub times-same : (r : Answer) → times_left (system b) step r old ≡ times_after b r old
+  pub times-same : (r : Result Answer Refusal) → times_left (system b) step r old ≡ times_after b r old
   unfolding times_left
-  times-same (Times passes) = ap (λ (R : List ℕ). fill_to (λ k. get_or R k 0) (tasks b) old) same
-  times-same (Late task passes) = refl
-  times-same Spent = refl
-  times-same (Refused number place) = refl
+  times-same (Ok (Times passes)) = ap (λ (R : List ℕ). fill_to (λ k. get_or R k 0) (tasks b) old) same
+  times-same (Ok (Late task passes)) = refl
+  times-same (Ok Spent) = refl
+  times-same (Err refusal) = refl
 
 module _ (b old : List ℕ) (scratch table : ℕ) where
   -- the times buffer of a call that is not refused
-  pub times-room : analyse_refusal b (length old) scratch table ≡ Passed → tasks b ≤ length old
+  pub times-room : analyse_refusal b (length old) scratch table ≡ Ok tt → tasks b ≤ length old
   times-room passed = (analyse-taken b (length old) scratch table passed).analysable.times_room
 
   -- its answer, by its passes
-  pub analyse-settled : analyse_refusal b (length old) scratch table ≡ Passed → analyse_answer b (length old) scratch table ≡ settled_answer (system b) (pass (system b)) (pass_limit b)
+  pub analyse-settled : analyse_refusal b (length old) scratch table ≡ Ok tt → analyse_answer b (length old) scratch table ≡ Ok (settled_answer (system b) (pass (system b)) (pass_limit b))
   unfolding analyse_answer
   analyse-settled passed = ap (λ (v : Verdict). answer_by v b) passed
 
   -- demand 3 of Analyse: of every call that is not refused, and of any value and buffer that equal its own
-  pub demand3-met : analyse_refusal b (length old) scratch table ≡ Passed → (r : Answer) (new : List ℕ) → r ≡ analyse_answer b (length old) scratch table → new ≡ times_after b r old
+  pub demand3-met : analyse_refusal b (length old) scratch table ≡ Ok tt → (r : Result Answer Refusal) (new : List ℕ) → r ≡ analyse_answer b (length old) scratch table → new ≡ times_after b r old
       → Demand3 (system b) (pass_limit b) r new
   unfolding analyse_answer
   demand3-met passed r new e h = rw (h, e, passed) (settled-demand3 b old (system-ascending b) (times-room passed))

@@ -5,6 +5,7 @@
 use Prim.Native.Nat.{ℕ, ◌+◌, ◌-◌, ◌≤◌, ◌<◌}
 use mathlib.Core.Bool.{Bool, true, false, not, cond, false≢true}
 use mathlib.Core.List.{List}
+use Rattle.std.specs.Prelude.{Result, Ok, Err}
 use mathlib.Core.Path.{◌≡◌, refl, sym, ap, ap₂, ◌∙◌, fun_ext}
 use native.Mathlib.Omega.{arith}
 use lib.Dec.{leb, ltb}
@@ -16,9 +17,10 @@ use Rattle.ranges.specs.Ranges.{within}
 use Rattle.document01.specs.Document01 as old
 use Rattle.document01.specs.Document01.{Board, Reply, value, times, late, spent, refused, is_refused, unless}
 use Rattle.document01.proofs.Boards.{sound, one_way, board}
-use Rattle.refusals.specs.Refusals.{refuse_unless, first_bad, refuse_first, ◌or_else◌, refusal_of}
-use Rattle.refusals.specs.declared.Verdict.{Verdict}
-use Rattle.refusals.specs.declared.Verdict.TheVariants.{Passed, Refused as Verdict-as-Refused}
+use Rattle.refusals.specs.Refusals.{Verdict, refuse_unless, first_bad, refuse_first, ◌or_else◌, refusal_of, row_number}
+use Rattle.refusals.specs.declared.Refusal.{Refusal}
+use Rattle.refusals.specs.declared.Row.{Row}
+use Rattle.refusals.specs.declared.Row.TheVariants.{TaskNumber, TimesBuffer, Scratch, FiguresTable, GivenTime}
 use Rattle.refusals.proofs.Passes as through
 use Rattle.refusals.proofs.Sound as taken
 use Rattle.refusals.proofs.Sound.{within-true}
@@ -31,9 +33,7 @@ use Rattle.sums.proofs.Document01.{bound-01, overhead-01, task_sum-01}
 use Rattle.passes.specs.Passes.{passes_needed, settled, first_late}
 use Rattle.checks.specs.CallRefusals.{times_row, time_ok, time_row, figures_refusal, overhead_refusal, weigh_refusal, analyse_refusal}
 use Rattle.answers.specs.declared.Answer.{Answer}
-use Rattle.answers.specs.declared.Answer.TheVariants.{Times, Late, Spent, Refused}
-use Rattle.answers.specs.declared.Outcome.{Outcome}
-use Rattle.answers.specs.declared.Outcome.TheVariants.{Value, Refused as Outcome-as-Refused}
+use Rattle.answers.specs.declared.Answer.TheVariants.{Times, Late, Spent}
 use Rattle.answers.specs.declared.MadeUp.TheVariants.{Spent as MadeUp-as-Spent}
 use Rattle.answers.specs.MakeUp.{made_up_at, settled_made_up}
 use Rattle.answers.specs.Answers.{system, unless_refused, figures_answer, overhead_answer, weigh_answer, settled_answer, answer_by, analyse_answer, times_left, times_after, table_after, ScratchAfter}
@@ -42,19 +42,19 @@ use Rattle.answers.proofs.Demand.{times-room}
 use Rattle.answers.proofs.Passes01.{passes-01, settled-01, late-01, demand3-01}
 
 -- the answers as document 01 has them
-abbrev pub of_outcome : Outcome → Reply
-of_outcome (Value x) = value x
-of_outcome (Outcome-as-Refused number place) = refused number place
+abbrev pub of_outcome : Result ℕ Refusal → Reply
+of_outcome (Ok x) = value x
+of_outcome (Err refusal) = refused (row_number refusal.row) refusal.place
 
-abbrev pub of_answer : Answer → Reply
-of_answer (Times passes) = times passes
-of_answer (Late task passes) = late task passes
-of_answer Spent = spent
-of_answer (Refused number place) = refused number place
+abbrev pub of_answer : Result Answer Refusal → Reply
+of_answer (Ok (Times passes)) = times passes
+of_answer (Ok (Late task passes)) = late task passes
+of_answer (Ok Spent) = spent
+of_answer (Err refusal) = refused (row_number refusal.row) refusal.place
 
 -- what is said of a board of document 01
 pub record As01 (b : List ℕ) : Type 0 where
-  pub taken : refusal_of b ≡ Passed
+  pub taken : refusal_of b ≡ Ok tt
   pub figure : (k : ℕ) → figure_of b k ≡ today (old.figure b k)
   pub overhead : (i j : ℕ) → γ b i j ≡ old.γ b i j
   pub sum : (R : List ℕ) (i : ℕ) → i < tasks b → task_sum b R i ≡ old.Sum b R i
@@ -71,63 +71,63 @@ pub record As01 (b : List ℕ) : Type 0 where
       → table_after b (analyse_refusal b room scratch (length records)) records
       ≡ old.table_after b (λ k. today (old.figure b k)) (old.analyse b room scratch (length records)) records
   -- an answer and buffers that keep Analyse's contract keep all that document 01 promises of them
-  pub analysed : {R scratch : List ℕ} {table : ℕ} {r : Answer} {R' scratch' : List ℕ}
+  pub analysed : {R scratch : List ℕ} {table : ℕ} {r : Result Answer Refusal} {R' scratch' : List ℕ}
       → Analysed b R scratch table r R' scratch' → old.Analysed b R scratch table (of_answer r) R' scratch'
 
 -- a row of the refusal table, and the last one
-outcome-row : (number : ℕ) (test : Bool) (place : ℕ) (rest : Verdict) (x : ℕ)
-    → of_outcome (unless_refused (refuse_unless number test place or_else rest) x) ≡ unless number test place (of_outcome (unless_refused rest x))
+outcome-row : (row : Row) (test : Bool) (place : ℕ) (rest : Verdict) (x : ℕ)
+    → of_outcome (unless_refused (refuse_unless row test place or_else rest) x) ≡ unless (row_number row) test place (of_outcome (unless_refused rest x))
 unfolding refuse_unless
-outcome-row number true place rest x = refl
-outcome-row number false place rest x = refl
+outcome-row row true place rest x = refl
+outcome-row row false place rest x = refl
 
-outcome-last : (number : ℕ) (test : Bool) (place x : ℕ) → of_outcome (unless_refused (refuse_unless number test place) x) ≡ unless number test place (value x)
+outcome-last : (row : Row) (test : Bool) (place x : ℕ) → of_outcome (unless_refused (refuse_unless row test place) x) ≡ unless (row_number row) test place (value x)
 unfolding refuse_unless
-outcome-last number true place x = refl
-outcome-last number false place x = refl
+outcome-last row true place x = refl
+outcome-last row false place x = refl
 
-answer-row : (b : List ℕ) (number : ℕ) (test : Bool) (place : ℕ) (rest : Verdict)
-    → of_answer (answer_by (refuse_unless number test place or_else rest) b) ≡ unless number test place (of_answer (answer_by rest b))
+answer-row : (b : List ℕ) (row : Row) (test : Bool) (place : ℕ) (rest : Verdict)
+    → of_answer (answer_by (refuse_unless row test place or_else rest) b) ≡ unless (row_number row) test place (of_answer (answer_by rest b))
 unfolding refuse_unless
-answer-row b number true place rest = refl
-answer-row b number false place rest = refl
+answer-row b row true place rest = refl
+answer-row b row false place rest = refl
 
-answer-last : (b : List ℕ) (number : ℕ) (test : Bool) (place : ℕ)
-    → of_answer (answer_by (refuse_unless number test place) b) ≡ unless number test place (of_answer (answer_by Passed b))
+answer-last : (b : List ℕ) (row : Row) (test : Bool) (place : ℕ)
+    → of_answer (answer_by (refuse_unless row test place) b) ≡ unless (row_number row) test place (of_answer (answer_by (Ok tt) b))
 unfolding refuse_unless
-answer-last b number true place = refl
-answer-last b number false place = refl
+answer-last b row true place = refl
+answer-last b row false place = refl
 
 -- by the passes: what is answered, and that it is no refusal
-settled-row : (over last : Bool) (i p : ℕ) → of_answer (cond over Spent (cond last (Late i p) (Times p))) ≡ cond over spent (cond last (late i p) (times p))
+settled-row : (over last : Bool) (i p : ℕ) → of_answer (Ok (cond over Spent (cond last (Late i p) (Times p)))) ≡ cond over spent (cond last (late i p) (times p))
 settled-row true last i p = refl
 settled-row false true i p = refl
 settled-row false false i p = refl
 
-not-refused : (over last : Bool) (i p : ℕ) → is_refused (of_answer (cond over Spent (cond last (Late i p) (Times p)))) ≡ false
+not-refused : (over last : Bool) (i p : ℕ) → is_refused (of_answer (Ok (cond over Spent (cond last (Late i p) (Times p))))) ≡ false
 not-refused true last i p = refl
 not-refused false true i p = refl
 not-refused false false i p = refl
 
 module _ (b : List ℕ) where
   -- whether an answer refuses is told by the verdict of its checks
-  passed-taken : is_refused (of_answer (answer_by Passed b)) ≡ false
+  passed-taken : is_refused (of_answer (answer_by (Ok tt) b)) ≡ false
   unfolding settled_answer
   passed-taken =
       let S = system b in
       let late = first_late S (settled S) in
       not-refused (ltb (pass_limit b) (passes_needed S)) (ltb late (tasks b)) (late + 1) (passes_needed S)
 
-  taken-passed : (v : Verdict) → is_refused (of_answer (answer_by v b)) ≡ false → v ≡ Passed
-  taken-passed Passed e = refl
-  taken-passed (Verdict-as-Refused number place) e = absurd (false≢true (sym e))
+  taken-passed : (v : Verdict) → is_refused (of_answer (answer_by v b)) ≡ false → v ≡ Ok tt
+  taken-passed (Ok _) e = refl
+  taken-passed (Err refusal) e = absurd (false≢true (sym e))
 
   scratch-kept : (v : Verdict) {scratch scratch' : List ℕ} → ScratchAfter v scratch scratch' → is_refused (of_answer (answer_by v b)) ≡ true → scratch' ≡ scratch
-  scratch-kept Passed left e = absurd (false≢true (sym passed-taken ∙ e))
-  scratch-kept (Verdict-as-Refused number place) left e = left
+  scratch-kept (Ok _) left e = absurd (false≢true (sym passed-taken ∙ e))
+  scratch-kept (Err refusal) left e = left
 
 module _ (b : List ℕ) (board : Board b) where
-  passed : refusal_of b ≡ Passed
+  passed : refusal_of b ≡ Ok tt
   passed = through.passes b (sound b board)
 
   -- ---- Figures, Overhead, Weigh
@@ -140,13 +140,13 @@ module _ (b : List ℕ) (board : Board b) where
 
   figures-01 : (table : ℕ) → of_outcome (figures_answer b table) ≡ old.figures b table
   unfolding figures_answer figures_refusal old.figures
-  figures-01 table = rw passed (outcome-last 13 (leb (tasks b) table) table (tasks b))
+  figures-01 table = rw passed (outcome-last FiguresTable (leb (tasks b) table) table (tasks b))
 
   outcome-table : (v : Verdict) (x : ℕ) (records : List Figure)
       → table_after b v records ≡ old.table_after b (λ k. today (old.figure b k)) (of_outcome (unless_refused v x)) records
   unfolding table_after
-  outcome-table Passed x records = table_filled records
-  outcome-table (Verdict-as-Refused number place) x records = refl
+  outcome-table (Ok _) x records = table_filled records
+  outcome-table (Err refusal) x records = refl
 
   figures-table-01 : (records : List Figure)
       → table_after b (figures_refusal b (length records)) records ≡ old.table_after b (λ k. today (old.figure b k)) (old.figures b (length records)) records
@@ -159,9 +159,9 @@ module _ (b : List ℕ) (board : Board b) where
   unfolding overhead_answer overhead_refusal old.overhead
   overhead-call-01 i j =
       rw passed
-      (outcome-row 10 (within 1 (tasks b) i) i _ _
+      (outcome-row TaskNumber (within 1 (tasks b) i) i _ _
       ∙ ap (unless 10 (within 1 (tasks b) i) i)
-      (outcome-last 10 (within 1 (tasks b) j) j _ ∙ ap (λ (x : ℕ). unless 10 (within 1 (tasks b) j) j (value x)) (overhead-01 b board (i - 1) (j - 1))))
+      (outcome-last TaskNumber (within 1 (tasks b) j) j _ ∙ ap (λ (x : ℕ). unless 10 (within 1 (tasks b) j) j (value x)) (overhead-01 b board (i - 1) (j - 1))))
 
   above-01 : (R : List ℕ) → first_bad (time_ok b R) 0 (tasks b) ≡ old.first_above b R
   unfolding first_bad
@@ -178,7 +178,7 @@ module _ (b : List ℕ) (board : Board b) where
 
   weigh-01 : (R : List ℕ) (i : ℕ) → of_outcome (weigh_answer b R i) ≡ old.weigh b R i
   unfolding weigh_answer weigh_refusal refuse_first old.weigh
-  weigh-01 R i = rw passed (outcome-row 10 (within 1 (tasks b) i) i _ _ ∙ go (within 1 (tasks b) i) refl)
+  weigh-01 R i = rw passed (outcome-row TaskNumber (within 1 (tasks b) i) i _ _ ∙ go (within 1 (tasks b) i) refl)
     where
       go : (test : Bool) → within 1 (tasks b) i ≡ test
           → unless 10 test i (of_outcome (unless_refused (times_row (tasks b) (length R) or_else time_row b R (tasks b)) (task_sum b R (i - 1))))
@@ -186,14 +186,14 @@ module _ (b : List ℕ) (board : Board b) where
       go false e = refl
       go true e =
           let task : i - 1 < tasks b = omega (arith, within-true 1 (tasks b) i e) in
-          outcome-row 11 (leb (tasks b) (length R)) (length R) _ _
+          outcome-row TimesBuffer (leb (tasks b) (length R)) (length R) _ _
           ∙ ap (short R)
-          (outcome-last 14 (leb (tasks b) (first_bad (time_ok b R) 0 (tasks b))) (first_bad (time_ok b R) 0 (tasks b)) _
+          (outcome-last GivenTime (leb (tasks b) (first_bad (time_ok b R) 0 (tasks b))) (first_bad (time_ok b R) 0 (tasks b)) _
           ∙ ap₂ (λ (k x : ℕ). above k (value x)) (above-01 R) (task_sum-01 b board R (i - 1) task))
 
   -- ---- Analyse
 
-  settled-reply : of_answer (answer_by Passed b) ≡ old.settled_reply b
+  settled-reply : of_answer (answer_by (Ok tt) b) ≡ old.settled_reply b
   unfolding settled_answer old.settled_reply
   settled-reply =
       rw (passes-01 b board, late-01 b board)
@@ -203,17 +203,17 @@ module _ (b : List ℕ) (board : Board b) where
   unfolding analyse_answer analyse_refusal old.analyse
   analyse-01 room scratch table =
       rw passed
-      (answer-row b 11 (leb (tasks b) room) room _
+      (answer-row b TimesBuffer (leb (tasks b) room) room _
       ∙ ap (unless 11 (leb (tasks b) room) room)
-      (answer-row b 12 (leb (scratch_words (tasks b)) scratch) scratch _
+      (answer-row b Scratch (leb (scratch_words (tasks b)) scratch) scratch _
       ∙ ap (unless 12 (leb (scratch_words (tasks b)) scratch) scratch)
-      (answer-last b 13 (leb (tasks b) table) table ∙ ap (unless 13 (leb (tasks b) table) table) settled-reply)))
+      (answer-last b FiguresTable (leb (tasks b) table) table ∙ ap (unless 13 (leb (tasks b) table) table) settled-reply)))
 
   answer-table : (v : Verdict) (records : List Figure)
       → table_after b v records ≡ old.table_after b (λ k. today (old.figure b k)) (of_answer (answer_by v b)) records
   unfolding table_after
-  answer-table Passed records = rw (passed-taken b) (table_filled records)
-  answer-table (Verdict-as-Refused number place) records = refl
+  answer-table (Ok _) records = rw (passed-taken b) (table_filled records)
+  answer-table (Err refusal) records = refl
 
   analyse-table-01 : (room scratch : ℕ) (records : List Figure)
       → table_after b (analyse_refusal b room scratch (length records)) records
@@ -223,14 +223,14 @@ module _ (b : List ℕ) (board : Board b) where
       answer-table (analyse_refusal b room scratch (length records)) records
       ∙ ap (λ (r : Reply). old.table_after b (λ k. today (old.figure b k)) r records) (analyse-01 room scratch (length records))
 
-  times-left-01 : (r : Answer) (buffer : List ℕ) → times_after b r buffer ≡ old.times_after b (of_answer r) buffer
+  times-left-01 : (r : Result Answer Refusal) (buffer : List ℕ) → times_after b r buffer ≡ old.times_after b (of_answer r) buffer
   unfolding times_left
-  times-left-01 (Times passes) buffer = ap (λ (R : List ℕ). fill_to (λ k. get_or R k 0) (tasks b) buffer) (settled-01 b board)
-  times-left-01 (Late task passes) buffer = refl
-  times-left-01 Spent buffer = refl
-  times-left-01 (Refused number place) buffer = refl
+  times-left-01 (Ok (Times passes)) buffer = ap (λ (R : List ℕ). fill_to (λ k. get_or R k 0) (tasks b) buffer) (settled-01 b board)
+  times-left-01 (Ok (Late task passes)) buffer = refl
+  times-left-01 (Ok Spent) buffer = refl
+  times-left-01 (Err refusal) buffer = refl
 
-  module _ {R scratch : List ℕ} {table : ℕ} {r : Answer} {R' scratch' : List ℕ} (kept : Analysed b R scratch table r R' scratch') where
+  module _ {R scratch : List ℕ} {table : ℕ} {r : Result Answer Refusal} {R' scratch' : List ℕ} (kept : Analysed b R scratch table r R' scratch') where
     verdict : Verdict
     verdict = analyse_refusal b (length R) (length scratch) table
 
@@ -244,7 +244,7 @@ module _ (b : List ℕ) (board : Board b) where
     demand3-kept : is_refused (of_answer r) ≡ false → old.Demand3 b (of_answer r) R'
     unfolding verdict
     demand3-kept e =
-        let taken = taken-passed b verdict (ap (λ (a : Answer). is_refused (of_answer a)) (sym by-verdict) ∙ e) in
+        let taken = taken-passed b verdict (ap (λ (a : Result Answer Refusal). is_refused (of_answer a)) (sym by-verdict) ∙ e) in
         let is : of_answer r ≡ old.settled_reply b = ap of_answer (by-verdict ∙ ap (λ (v : Verdict). answer_by v b) taken) ∙ settled-reply in
         rw (left, is) (demand3-01 b board R (times-room b R (length scratch) table taken))
 
@@ -253,7 +253,7 @@ module _ (b : List ℕ) (board : Board b) where
     analysed-01 = record {
       answer = ap of_answer kept.answer ∙ analyse-01 (length R) (length scratch) table;
       given = left;
-      scratch_left = λ e. scratch-kept b verdict kept.scratch_left (ap (λ (a : Answer). is_refused (of_answer a)) (sym by-verdict) ∙ e);
+      scratch_left = λ e. scratch-kept b verdict kept.scratch_left (ap (λ (a : Result Answer Refusal). is_refused (of_answer a)) (sym by-verdict) ∙ e);
       demand3 = demand3-kept;
     }
 
@@ -280,5 +280,5 @@ module _ (b : List ℕ) (board : Board b) where
   }
 
 -- of the boards that use nothing which came later, these alone are taken
-pub taken-01 : (b : List ℕ) → memory b ≤ 2 → word b 15 ≡ 0 → word b 16 ≡ 0 → ((k : ℕ) → k < tasks b → jitter b k ≡ 0) → refusal_of b ≡ Passed → Board b
+pub taken-01 : (b : List ℕ) → memory b ≤ 2 → word b 15 ≡ 0 → word b 16 ≡ 0 → ((k : ℕ) → k < tasks b → jitter b k ≡ 0) → refusal_of b ≡ Ok tt → Board b
 taken-01 b few no-ways none-put-off punctual passes = board b (taken.sound b passes) few no-ways none-put-off punctual

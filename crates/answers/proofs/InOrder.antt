@@ -3,13 +3,14 @@
 use Prim.Native.Nat.{ℕ, ◌+◌, ◌≤◌}
 use mathlib.Core.Bool.{Bool, true, false, cond}
 use mathlib.Core.List.{List}
-use mathlib.Core.Path.{◌≡◌, refl, sym, ◌∙◌}
+use Rattle.std.specs.Prelude.{Result, Ok}
+use mathlib.Core.Path.{◌≡◌, refl, sym, ap, ◌∙◌}
 use native.Mathlib.Omega.{arith}
 use lib.Dec.{ltb}
 use lib.ListN.{length}
 use borrow.Author.Tests.{le-ltb, ltb-false}
 use Rattle.board.specs.Layout.{tasks, pass_limit}
-use Rattle.refusals.specs.declared.Verdict.TheVariants.{Passed}
+use Rattle.refusals.specs.declared.Refusal.{Refusal}
 use Rattle.refusals.proofs.Verdicts.{or_else-passed}
 use Rattle.passes.specs.Passes.{System, pass, passes_by, passes_needed, settled, first_late, Monotone}
 use Rattle.passes.specs.Visits.{in_order, Permutation}
@@ -25,14 +26,14 @@ use Rattle.answers.proofs.Demand.{analyse-settled}
 
 module _ (S : System) (mono : Monotone S) {order : List ℕ} (permuted : Permutation S.count order) where
   -- within Analyse's passes: its answer, but for the passes
-  answers_agree : (limit : ℕ) → passes_needed S ≤ limit → settled_answer S (in_order S order) limit ≡ with_passes (passes_by S (in_order S order)) (settled_answer S (pass S) limit)
+  answers_agree : (limit : ℕ) → passes_needed S ≤ limit → Ok (settled_answer S (in_order S order) limit) ≡ with_passes (passes_by S (in_order S order)) (Ok (settled_answer S (pass S) limit))
   unfolding settled_answer
   answers_agree limit le =
       let few : passes_by S (in_order S order) ≤ limit = omega (arith, in_order-passes S mono permuted) in
       rw (le-ltb limit (passes_by S (in_order S order)) few, le-ltb limit (passes_needed S) le, in_order-settled S mono permuted) (go (ltb (first_late S (settled S)) S.count))
     where
-      go : (t : Bool) → cond t (Late (first_late S (settled S) + 1) (passes_by S (in_order S order))) (Times (passes_by S (in_order S order)))
-          ≡ with_passes (passes_by S (in_order S order)) (cond t (Late (first_late S (settled S) + 1) (passes_needed S)) (Times (passes_needed S)))
+      go : (t : Bool) → ◌≡◌ {A = Result Answer Refusal} (Ok (cond t (Late (first_late S (settled S) + 1) (passes_by S (in_order S order))) (Times (passes_by S (in_order S order)))))
+          (with_passes (passes_by S (in_order S order)) (Ok (cond t (Late (first_late S (settled S) + 1) (passes_needed S)) (Times (passes_needed S)))))
       go true = refl
       go false = refl
 
@@ -46,17 +47,17 @@ module _ (S : System) (mono : Monotone S) {order : List ℕ} (permuted : Permuta
       go false e = ltb-false limit (passes_needed S) e
 
 -- of every call that is not refused, and of any value that equals its own
-module _ (b old : List ℕ) (scratch table : ℕ) (order : List ℕ) (passed : in_order_refusal b (length old) scratch table order ≡ Passed) (r : Answer)
+module _ (b old : List ℕ) (scratch table : ℕ) (order : List ℕ) (passed : in_order_refusal b (length old) scratch table order ≡ Ok tt) (r : Result Answer Refusal)
     (e : r ≡ in_order_answer b (length old) scratch table order) where
   permuted : Permutation (tasks b) order
   permuted = (in-order-taken b (length old) scratch table order passed).permuted
 
   -- Analyse would not be refused either
-  analysed : analyse_refusal b (length old) scratch table ≡ Passed
+  analysed : analyse_refusal b (length old) scratch table ≡ Ok tt
   analysed =
       (or_else-passed (analyse_refusal b (length old) scratch table) (order_row (tasks b) order) (sym (in_order_refusal-is b (length old) scratch table order) ∙ passed)).0
 
-  analyse-is : analyse_answer b (length old) scratch table ≡ settled_answer (system b) (pass (system b)) (pass_limit b)
+  analyse-is : analyse_answer b (length old) scratch table ≡ Ok (settled_answer (system b) (pass (system b)) (pass_limit b))
   analyse-is = analyse-settled b old scratch table analysed
 
   pub in-order-like : LikeAnalyse b (length old) scratch table (in_order (system b) order) r
@@ -67,5 +68,5 @@ module _ (b old : List ℕ) (scratch table : ℕ) (order : List ℕ) (passed : i
         passes = in_order-passes (system b) (system-mono b) permuted;
         answer = λ other.
             rw (e, passed, analyse-is)
-            (answers_agree (system b) (system-mono b) permuted (pass_limit b) (not-spent (system b) (system-mono b) permuted (pass_limit b) (λ spent. other (analyse-is ∙ spent))));
+            (answers_agree (system b) (system-mono b) permuted (pass_limit b) (not-spent (system b) (system-mono b) permuted (pass_limit b) (λ spent. other (analyse-is ∙ ap {B = Result Answer Refusal} (λ (a : Answer). Ok a) spent))));
       }

@@ -2,6 +2,7 @@
 -- Assumes nothing.
 use Prim.Native.Nat.{ℕ, ◌-◌, ◌<◌}
 use mathlib.Core.List.{List}
+use Rattle.std.specs.Prelude.{Result, Ok, Err}
 use mathlib.Core.Path.{◌≡◌, refl, ap}
 use Rattle.board.specs.Layout.{tasks}
 use Rattle.sums.specs.Punctual.{Punctual, punctual_sum}
@@ -11,8 +12,9 @@ use Rattle.passes.specs.Visits.{in_order, Permutation}
 use Rattle.passes.proofs.Alike.{pass-alike, in_order-alike, first_late-alike, passes_by-alike, settled_by-alike}
 use Rattle.one_pass.specs.Punctual.{punctual_system}
 use Rattle.one_pass.proofs.Punctual.{system-punctual}
+use Rattle.refusals.specs.declared.Refusal.{Refusal}
 use Rattle.answers.specs.declared.Answer.{Answer}
-use Rattle.answers.specs.declared.Answer.TheVariants.{Times, Late, Spent, Refused}
+use Rattle.answers.specs.declared.Answer.TheVariants.{Times, Late, Spent}
 use Rattle.checks.specs.CallRefusals.{weigh_refusal}
 use Rattle.answers.specs.Answers.{system, unless_refused, weigh_answer, settled_answer, times_left, times_after}
 
@@ -23,12 +25,12 @@ module _ {S S' : System} (alike : Alike S S') {step step' : List ℕ → List �
   settled_answer-alike limit =
       rw (passes_by-alike alike same, settled_by-alike alike same, first_late-alike alike (settled_by S' step'), alike.count)
 
-  times_left-alike : (r : Answer) (old : List ℕ) → times_left S step r old ≡ times_left S' step' r old
+  times_left-alike : (r : Result Answer Refusal) (old : List ℕ) → times_left S step r old ≡ times_left S' step' r old
   unfolding times_left
-  times_left-alike (Times passes) old = rw (settled_by-alike alike same, alike.count)
-  times_left-alike (Late task passes) old = refl
-  times_left-alike Spent old = refl
-  times_left-alike (Refused number place) old = refl
+  times_left-alike (Ok (Times passes)) old = rw (settled_by-alike alike same, alike.count)
+  times_left-alike (Ok (Late task passes)) old = refl
+  times_left-alike (Ok Spent) old = refl
+  times_left-alike (Err refusal) old = refl
 
 module _ (b : List ℕ) (punctual : Punctual b) where
   -- Analyse: times, late or spent
@@ -37,7 +39,7 @@ module _ (b : List ℕ) (punctual : Punctual b) where
   answer-punctual = settled_answer-alike (system-punctual b punctual) (pass-alike (system-punctual b punctual))
 
   -- the times buffer after Analyse or its sibling
-  pub times-punctual : (r : Answer) (old : List ℕ) → times_after b r old ≡ times_left (punctual_system b) (pass (punctual_system b)) r old
+  pub times-punctual : (r : Result Answer Refusal) (old : List ℕ) → times_after b r old ≡ times_left (punctual_system b) (pass (punctual_system b)) r old
   times-punctual = times_left-alike (system-punctual b punctual) (pass-alike (system-punctual b punctual))
 
   -- Analyse in the order of a list

@@ -3,5 +3,6 @@ pub mod Answers
 pub mod Demand
 pub mod InOrder
 pub mod MakeUp
+pub mod PartNumbers
 pub mod Records
 pub mod Concluded

@@ -3,32 +3,52 @@
 
 pub mod taken;
 
-use board::MOST_TASKS;
+ghost use Rattle.std.specs.Prelude.{◌≡◌};
+ghost use Rattle.answers.specs.PartNumbers.{part_number};
+
 use interference::SumParts;
 
-// The words from which the records of the most tasks are filled: four a task.
-pub const MOST_FIGURE_WORDS: usize = 4 * MOST_TASKS;
-
-// What `analyse` answers: the passes; the late task and the passes; the limit spent; the number of the refusal and its place.
-#[derive(Clone, Copy)]
+// What `analyse` answers where no row refuses: the passes; the late task and the passes; the limit spent.
+#[derive(Clone, Copy, Debug, PartialEq, Eq)]
 pub enum Answer {
     Times(u32),
     Late(u32, u32),
     Spent,
-    Refused(usize, usize),
 }
 
-// What the other calls answer: the records filled, the overhead or the sum; the number of the refusal and its place.
-#[derive(Clone, Copy)]
-pub enum Outcome {
-    Value(u64),
-    Refused(usize, usize),
-}
-
-// What `make_up` answers: the six parts of the task's sum and the number, 1 to 6, of the largest; the limit spent; the number of the refusal and its place.
-#[derive(Clone, Copy)]
+// What `make_up` answers where no row refuses: the six parts of the task's sum and the largest of them; the limit spent.
+#[derive(Clone, Copy, Debug, PartialEq, Eq)]
 pub enum MadeUp {
-    Parts(SumParts, u32),
+    Parts(SumParts, Part),
     Spent,
-    Refused(usize, usize),
+}
+
+// The parts of a sum, with their numbers.
+#[derive(Clone, Copy, Debug, PartialEq, Eq)]
+pub enum Part {
+    OwnWork = 1,
+    HigherWork,
+    CoreAccesses,
+    OtherAccesses,
+    BlockingAccess,
+    Refreshes,
+}
+
+// All of them, in order.
+pub const PARTS: [Part; 6] = [
+    Part::OwnWork,
+    Part::HigherWork,
+    Part::CoreAccesses,
+    Part::OtherAccesses,
+    Part::BlockingAccess,
+    Part::Refreshes,
+];
+
+impl Part {
+    // Its number, from 1.
+    pub fn number(self) -> u32
+        ensures { result ≡ part_number self }
+    {
+        self as u32
+    }
 }

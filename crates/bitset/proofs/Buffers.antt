@@ -1,67 +1,50 @@
 -- Laws of a buffer of records: what two of them have in common; one record written holds its words, and every other is as it was.
 -- Assumes nothing.
-use Prim.Native.Nat.{ℕ, ◌+◌, ◌*◌, ◌<◌}
-use mathlib.Core.Path.{◌≡◌, refl, sym, ap, ap₂, subst, ◌∙◌}
+use Prim.Native.Nat.{ℕ, ◌+◌, ◌*◌, ◌≤◌, ◌<◌}
+use mathlib.Core.Path.{◌≡◌, sym, ap, ap₂, subst, ◌∙◌}
 use mathlib.Core.Bool.{Bool, false, ◌&&◌}
 use mathlib.Core.List.{List}
 use mathlib.Core.Logic.{⊎_elim}
-use native.Mathlib.Nat.{add-zero}
 use native.Mathlib.Decide.{ℕ_discrete}
 use native.Mathlib.Omega.{arith}
 use mir.Syntax.{w64}
 use mir.Val.{Fits}
 use lib.Bits.{bit_and}
 use lib.Count.{ones}
-use lib.ListN.{length, get_or, set}
-use Rattle.folds.specs.Folds.{count_to, tabulate}
+use lib.ListN.{length, get_or, take, drop, length-take, length-drop}
+use lib.Seq.{ext_get_or, get_or-take, get_or-drop}
+use Rattle.folds.specs.Folds.{count_to}
 use Rattle.folds.specs.Stored.{Stored}
 use Rattle.folds.proofs.Numbers.{le-or-lt}
-use Rattle.folds.proofs.Lists.{get_d_tabulate, tabulate-cong}
-use Rattle.folds.proofs.Stored.{stored-none, stored_next, stored_more, stored_same}
+use Rattle.folds.proofs.Lists.{length-tabulate, get_d_tabulate, tabulate-cong}
 use Rattle.bitset.specs.Bits.{member, set_word, words_of}
 use Rattle.bitset.specs.Records.{record_at}
 use Rattle.bitset.proofs.Words.{word_of-cong}
-use Rattle.bitset.proofs.Sets.{empty-words, words_of-at, both_words}
+use Rattle.bitset.proofs.Sets.{empty-words, words_of-at, both-next}
 
 -- ---- a record
 
 pub record-empty : (n : ℕ) (buffer : List ℕ) (q : ℕ) → ((k : ℕ) → k < n → get_or buffer (n * q + k) 0 ≡ 0) → record_at n buffer q ≡ words_of n (λ s. false)
 record-empty n buffer q none = tabulate-cong (λ k. get_or buffer (n * q + k) 0) (λ k. 0) n none ∙ empty-words n
 
--- how many numbers two records of four words have in common
-pub both-records : (ms ns : List ℕ) (i j : ℕ) → ((k : ℕ) → Fits w64 (get_or ms k 0))
-    → ones (bit_and (get_or ms (4 * i) 0) (get_or ns (4 * j) 0)) + ones (bit_and (get_or ms (4 * i + 1) 0) (get_or ns (4 * j + 1) 0))
-    + ones (bit_and (get_or ms (4 * i + 2) 0) (get_or ns (4 * j + 2) 0)) + ones (bit_and (get_or ms (4 * i + 3) 0) (get_or ns (4 * j + 3) 0))
-    ≡ count_to (λ s. member (record_at 4 ms i) s && member (record_at 4 ns j) s) 256
-both-records ms ns i j fit =
-    omega (
-      arith,
-      common 0 (omega arith),
-      ap₂ (λ (p q : ℕ). ones (bit_and (get_or ms p 0) (get_or ns q 0))) (add-zero (4 * i)) (add-zero (4 * j)),
-      common 1 (omega arith),
-      common 2 (omega arith),
-      common 3 (omega arith),
-      both_words (record_at 4 ms i) (record_at 4 ns j) (λ k h. subst (Fits w64) (sym (get_d_tabulate (λ l. get_or ms (4 * i + l) 0) 0 4 k h)) (fit (4 * i + k))),
-    )
-  where
-    common : (k : ℕ) → k < 4 → ones (bit_and (get_or (record_at 4 ms i) k 0) (get_or (record_at 4 ns j) k 0)) ≡ ones (bit_and (get_or ms (4 * i + k) 0) (get_or ns (4 * j + k) 0))
-    common k h = ap₂ (λ (x y : ℕ). ones (bit_and x y)) (get_d_tabulate (λ l. get_or ms (4 * i + l) 0) 0 4 k h) (get_d_tabulate (λ l. get_or ns (4 * j + l) 0) 0 4 k h)
+-- the words of a record as a part of the buffer
+pub record-part : (n : ℕ) (buffer : List ℕ) (q : ℕ) → n * q + n ≤ length buffer → take n (drop (n * q) buffer) ≡ record_at n buffer q
+record-part n buffer q room =
+    ext_get_or 0 _ _ (simp (length-take, length-drop, length-tabulate) (omega arith))
+    (λ k h. let low : k < n = omega (arith, length-take n (drop (n * q) buffer)) in
+    get_or-take n (drop (n * q) buffer) k 0 low ∙ get_or-drop (n * q) buffer k 0 ∙ sym (get_d_tabulate (λ j. get_or buffer (n * q + j) 0) 0 n k low))
 
--- four stores
-pub stored-four : (f : ℕ → ℕ) (at : ℕ) (w : List ℕ) → at + 3 < length w
-    → Stored f at 4 w (set (set (set (set w at (f 0)) (at + 1) (f 1)) (at + 2) (f 2)) (at + 3) (f 3))
-stored-four f at w room =
-    let one = subst (λ (p : ℕ). Stored f at 1 w (set w p (f 0))) (add-zero at) (stored_next f at w (stored-none f at w) (omega arith) refl) in
-    let two = stored_next f at w one (omega arith) refl in
-    let three = stored_next f at w two (omega arith) refl in
-    stored_next f at w three (omega arith) refl
-
--- four words and four more
-pub stored-eight : (f : ℕ → ℕ) (q : ℕ) {w w' w'' : List ℕ} → Stored (λ k. get_or (tabulate f 4) k 0) (4 * (2 * q)) 4 w w'
-    → Stored (λ k. get_or (tabulate (λ j. f (4 + j)) 4) k 0) (4 * (2 * q + 1)) 4 w' w'' → Stored f (8 * q) 8 w w''
-stored-eight f q first second =
-    stored_more f (8 * q) (stored_same (omega arith) (λ k h. get_d_tabulate f 0 4 k h) first)
-    (stored_same (omega arith) (λ k h. get_d_tabulate (λ j. f (4 + j)) 0 4 k h) second)
+-- what two records of four words have in common, one word more
+pub both-more : (ms ns : List ℕ) (i j k : ℕ) → ((k : ℕ) → Fits w64 (get_or ms k 0)) → k < 4
+    → count_to (λ s. member (record_at 4 ms i) s && member (record_at 4 ns j) s) (64 * k) + ones (bit_and (get_or ms (4 * i + k) 0) (get_or ns (4 * j + k) 0))
+    ≡ count_to (λ s. member (record_at 4 ms i) s && member (record_at 4 ns j) s) (64 * (k + 1))
+both-more ms ns i j k fit h =
+    let a = get_d_tabulate (λ l. get_or ms (4 * i + l) 0) 0 4 k h in
+    let b = get_d_tabulate (λ l. get_or ns (4 * j + l) 0) 0 4 k h in
+    let both = λ (s : ℕ). member (record_at 4 ms i) s && member (record_at 4 ns j) s in
+    let next : 64 * k + 64 ≡ 64 * (k + 1) = omega arith in
+    ap₂ (λ (x y : ℕ). count_to both (64 * k) + ones (bit_and x y)) (sym a) (sym b)
+    ∙ both-next (record_at 4 ms i) (record_at 4 ns j) k (subst (Fits w64) (sym a) (fit (4 * i + k))) ∙ ap (count_to both) next
 
 -- ---- a set of eight words stored as record m
 

@@ -116,11 +116,11 @@ module _ (n : ℕ) (ws : List ℕ) (size : length ws ≡ n) (fit : (k : ℕ) →
 -- ---- how many numbers two sets have in common
 
 module _ (ms ns : List ℕ) where
-  abbrev both : ℕ → Bool
+  abbrev pub both : ℕ → Bool
   both s = member ms s && member ns s
 
   -- one word more
-  both-next : (i : ℕ) → Fits w64 (get_or ms i 0) → count_to both (64 * i) + ones (bit_and (get_or ms i 0) (get_or ns i 0)) ≡ count_to both (64 * i + 64)
+  pub both-next : (i : ℕ) → Fits w64 (get_or ms i 0) → count_to both (64 * i) + ones (bit_and (get_or ms i 0) (get_or ns i 0)) ≡ count_to both (64 * i + 64)
   both-next i fit =
       let word : ones (bit_and (get_or ms i 0) (get_or ns i 0)) ≡ count_to (λ j. both (64 * i + j)) 64 =
       ones-count 64 (bit_and (get_or ms i 0) (get_or ns i 0)) (lt_of_le_of_lt (and_le_l (get_or ms i 0) (get_or ns i 0)) fit.fits)
@@ -128,6 +128,7 @@ module _ (ms ns : List ℕ) where
       (λ j k. bit-and (get_or ms i 0) (get_or ns i 0) j ∙ ap₂ ◌&&◌ (sym (member-at ms i j k)) (sym (member-at ns i j k))) in
       omega (arith, word, count_to-split both (64 * i) 64)
 
+  -- those of four words
   pub both_words : ((k : ℕ) → k < 4 → Fits w64 (get_or ms k 0))
       → ones (bit_and (get_or ms 0 0) (get_or ns 0 0)) + ones (bit_and (get_or ms 1 0) (get_or ns 1 0)) + ones (bit_and (get_or ms 2 0) (get_or ns 2 0))
       + ones (bit_and (get_or ms 3 0) (get_or ns 3 0)) ≡ count_to (λ s. member ms s && member ns s) 256

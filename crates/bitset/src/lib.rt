@@ -36,16 +36,11 @@ pub fn add_to(set: &mut [u64], s: usize)
 pub fn union(a: [u64; SET_WORDS], b: [u64; SET_WORDS]) -> [u64; SET_WORDS]
     ensures { result ≡ words_of 8 (λ (t : ℕ). member a t || member b t) }
 {
-    [
-        a[0] | b[0],
-        a[1] | b[1],
-        a[2] | b[2],
-        a[3] | b[3],
-        a[4] | b[4],
-        a[5] | b[5],
-        a[6] | b[6],
-        a[7] | b[7],
-    ]
+    let mut both = a;
+    for i in 0..SET_WORDS {
+        both[i] |= b[i];
+    }
+    both
 }
 
 // How many bits are set both in word i of a and in word j of b.
@@ -61,11 +56,9 @@ pub fn count_both(a: &[u64], i: usize, b: &[u64], j: usize) -> u32
     requires { (4 * i + 3 < length a.now) × (4 * j + 3 < length b.now) }
     ensures { (result ≡ count_to (λ (s : ℕ). member (record_at 4 a.now i) s && member (record_at 4 b.now j) s) 256) × (result ≤ 256) }
 {
-    let x = 4 * i;
-    let y = 4 * j;
-    let p = ones_of_both(a, x, b, y);
-    let q = ones_of_both(a, x + 1, b, y + 1);
-    let r = ones_of_both(a, x + 2, b, y + 2);
-    let s = ones_of_both(a, x + 3, b, y + 3);
-    p + q + r + s
+    let mut sum = 0;
+    for k in 0..4 {
+        sum += ones_of_both(a, 4 * i + k, b, 4 * j + k);
+    }
+    sum
 }

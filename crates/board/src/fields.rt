@@ -1,231 +1,276 @@
-// One accessor a field: the word of a board that passed its checks, with its range.
+// A board that passed rows 1 to 9 of the refusal table, and one accessor a field: its word, with its range.
 ghost use Rattle.std.specs.Prelude.{◌≡◌, ◌+◌, ◌-◌, ◌*◌, ◌<◌, ◌≤◌};
 ghost use Rattle.board.specs.Layout as at;
 ghost use Rattle.board.specs.Sound.{Sound, Between};
+ghost use Rattle.board.specs.Kinds.{memory_number, bus_number, refresh_number};
 
-use folds::{index, larger};
+use crate::kinds::{Bus, Memory, Refresh};
+use std::marker::Model;
 
-// ℓ.
-pub fn cores(board: &[u32]) -> u32
-    requires { Sound board.now }
-    ensures { (result ≡ at.cores board.now) × Between 1 8 result }
-{
-    board[0]
+// A board that passed: its words, of which a clause sees the list, and which are sound.
+#[derive(Drop)]
+pub struct Board<'a> {
+    words: &'a [u32],
 }
 
-// n.
-pub fn tasks(board: &[u32]) -> u32
-    requires { Sound board.now }
-    ensures { (result ≡ at.tasks board.now) × Between 1 at.most_tasks result }
-{
-    board[1]
+impl<'a> Model for Board<'a> {
+    ghost use Rattle.std.specs.Prelude.{ℕ, List};
+    ghost use Rattle.board.specs.Sound.{Sound};
+
+    ghost Value = { List ℕ };
+
+    ghost view = { λ b. b.words.now };
+
+    ghost invariant = { λ b. Sound b.words.now };
 }
 
-// q.
-pub fn traces(board: &[u32]) -> u32
-    requires { Sound board.now }
-    ensures { (result ≡ at.traces board.now) × Between 1 512 result }
-{
-    board[2]
-}
+impl<'a> Board<'a> {
+    // The board of these words.
+    pub fn of(words: &'a [u32]) -> Board<'a>
+        requires { Sound words.now }
+        ensures { result ≡ words.now }
+    {
+        Board { words }
+    }
 
-// 0 none, 1 scratchpad, 2 one cache, 3 a code cache and a data cache.
-pub fn memory(board: &[u32]) -> u32
-    requires { Sound board.now }
-    ensures { (result ≡ at.memory board.now) × (result ≤ 3) }
-{
-    board[4]
-}
+    // Its words.
+    pub fn words(&self) -> &'a [u32]
+        ensures { result.now ≡ self.now }
+    {
+        self.words
+    }
 
-// The number of its caches: none with a scratchpad.
-pub fn cache_count(board: &[u32]) -> u32
-    requires { Sound board.now }
-    ensures { (result ≡ at.cache_count board.now) × (result ≤ 2) }
-{
-    larger(memory(board), 1) - 1
-}
+    // What every board is known to have, for proofs alone.
+    pub fn sound(&self)
+        ensures { Sound self.now }
+    {
+        let _words = self.words;
+    }
 
-// 0 fixed-priority, 1 processor-priority, 2 FIFO, 3 round-robin, 4 TDMA.
-pub fn bus(board: &[u32]) -> u32
-    requires { Sound board.now }
-    ensures { (result ≡ at.bus board.now) × (result ≤ 4) }
-{
-    board[5]
-}
+    // ℓ.
+    pub fn cores(&self) -> u32
+        ensures { (result ≡ at.cores self.now) × Between 1 8 result }
+    {
+        self.words[0]
+    }
 
-// v, where the bus has slots.
-pub fn slots_each(board: &[u32]) -> u32
-    requires { (Sound board.now) × (3 ≤ at.bus board.now) }
-    ensures { (result ≡ at.slots_each board.now) × Between 1 8 result }
-{
-    board[6]
-}
+    // n.
+    pub fn tasks(&self) -> u32
+        ensures { (result ≡ at.tasks self.now) × Between 1 at.most_tasks result }
+    {
+        self.words[1]
+    }
 
-// The slots of core y, which is not read before each core has its own (document 02, change 8).
-pub fn slots(board: &[u32], y: u32) -> u32
-    requires { (Sound board.now) × (3 ≤ at.bus board.now) × Between 1 (at.cores board.now) y }
-    ensures { (result ≡ at.slots board.now y) × Between 1 8 result }
-{
-    slots_each(board)
-}
+    // q.
+    pub fn traces(&self) -> u32
+        ensures { (result ≡ at.traces self.now) × Between 1 512 result }
+    {
+        self.words[2]
+    }
 
-// d, the cycles of one bus access.
-pub fn access_cycles(board: &[u32]) -> u32
-    requires { Sound board.now }
-    ensures { (result ≡ at.access_cycles board.now) × Between 1 255 result }
-{
-    board[7]
-}
+    pub fn memory(&self) -> Memory
+        ensures { (memory_number result ≡ at.memory self.now) × (memory_number result ≤ 3) }
+    {
+        match self.words[4] {
+            0 => Memory::Plain,
+            1 => Memory::Scratchpad,
+            2 => Memory::OneCache,
+            _ => Memory::TwoCaches,
+        }
+    }
 
-// 0 none, 1 burst, 2 distributed.
-pub fn refresh(board: &[u32]) -> u32
-    requires { Sound board.now }
-    ensures { (result ≡ at.refresh board.now) × (result ≤ 2) }
-{
-    board[8]
-}
+    // The number of its caches: none with a scratchpad.
+    pub fn cache_count(&self) -> u32
+        ensures { (result ≡ at.cache_count self.now) × (result ≤ 2) }
+    {
+        self.words[4].saturating_sub(1)
+    }
 
-// Tr, where there is a refresh.
-pub fn refresh_interval(board: &[u32]) -> u32
-    requires { (Sound board.now) × (1 ≤ at.refresh board.now) }
-    ensures { (result ≡ at.refresh_interval board.now) × Between 1 at.longest result }
-{
-    board[9]
-}
+    pub fn bus(&self) -> Bus
+        ensures { (bus_number result ≡ at.bus self.now) × (bus_number result ≤ 4) }
+    {
+        match self.words[5] {
+            0 => Bus::FixedPriority,
+            1 => Bus::ProcessorPriority,
+            2 => Bus::Fifo,
+            3 => Bus::RoundRobin,
+            _ => Bus::Tdma,
+        }
+    }
 
-// The rows, where there is a refresh.
-pub fn refresh_rows(board: &[u32]) -> u32
-    requires { (Sound board.now) × (1 ≤ at.refresh board.now) }
-    ensures { (result ≡ at.refresh_rows board.now) × Between 1 at.most_refresh_rows result }
-{
-    board[10]
-}
+    // v, where the bus has slots.
+    pub fn slots_each(&self) -> u32
+        requires { 3 ≤ at.bus self.now }
+        ensures { (result ≡ at.slots_each self.now) × Between 1 8 result }
+    {
+        self.words[6]
+    }
 
-// dr, the cycles of one refresh.
-pub fn refresh_cycles(board: &[u32]) -> u32
-    requires { Sound board.now }
-    ensures { (result ≡ at.refresh_cycles board.now) × (result ≤ 255) }
-{
-    board[11]
-}
+    // The slots of core y, which is not read before each core has its own (document 02, change 8).
+    pub fn slots(&self, y: u32) -> u32
+        requires { (3 ≤ at.bus self.now) × Between 1 (at.cores self.now) y }
+        ensures { (result ≡ at.slots self.now y) × Between 1 8 result }
+    {
+        self.slots_each()
+    }
 
-// The pass limit.
-pub fn pass_limit(board: &[u32]) -> u32
-    requires { Sound board.now }
-    ensures { (result ≡ at.pass_limit board.now) × (1 ≤ result) }
-{
-    board[12]
-}
+    // d, the cycles of one bus access.
+    pub fn access_cycles(&self) -> u32
+        ensures { (result ≡ at.access_cycles self.now) × Between 1 255 result }
+    {
+        self.words[7]
+    }
 
-// The code blocks that a scratchpad holds.
-pub fn held_code(board: &[u32]) -> u32
-    requires { (Sound board.now) × (at.memory board.now ≡ 1) }
-    ensures { (result ≡ at.held_code board.now) × (result ≤ at.first_data_block) }
-{
-    board[13]
-}
+    pub fn refresh(&self) -> Refresh
+        ensures { (refresh_number result ≡ at.refresh self.now) × (refresh_number result ≤ 2) }
+    {
+        match self.words[8] {
+            0 => Refresh::Absent,
+            1 => Refresh::Burst,
+            _ => Refresh::Distributed,
+        }
+    }
 
-// The data blocks that a scratchpad holds.
-pub fn held_data(board: &[u32]) -> u32
-    requires { Sound board.now }
-    ensures { (result ≡ at.held_data board.now) × (result ≤ at.first_data_block) }
-{
-    board[14]
-}
+    // Tr, where there is a refresh.
+    pub fn refresh_interval(&self) -> u32
+        requires { 1 ≤ at.refresh self.now }
+        ensures { (result ≡ at.refresh_interval self.now) × Between 1 at.longest result }
+    {
+        self.words[9]
+    }
 
-// c, the sets of a cache, and of the code cache where data has its own.
-pub fn cache_sets(board: &[u32]) -> u32
-    requires { (Sound board.now) × (2 ≤ at.memory board.now) }
-    ensures { (result ≡ at.cache_sets board.now) × Between 1 at.most_sets result }
-{
-    board[13]
-}
+    // The rows, where there is a refresh.
+    pub fn refresh_rows(&self) -> u32
+        requires { 1 ≤ at.refresh self.now }
+        ensures { (result ≡ at.refresh_rows self.now) × Between 1 at.most_refresh_rows result }
+    {
+        self.words[10]
+    }
 
-// The sets of the data cache, where data has its own.
-pub fn data_sets(board: &[u32]) -> u32
-    requires { (Sound board.now) × (at.memory board.now ≡ 3) }
-    ensures { (result ≡ at.data_sets board.now) × Between 1 at.most_sets result }
-{
-    board[14]
-}
+    // dr, the cycles of one refresh.
+    pub fn refresh_cycles(&self) -> u32
+        ensures { (result ≡ at.refresh_cycles self.now) × (result ≤ 255) }
+    {
+        self.words[11]
+    }
 
-// The ways of each cache, where 0 stands for 1.
-pub fn ways(board: &[u32]) -> u32
-    requires { Sound board.now }
-    ensures { (result ≡ at.ways board.now) × Between 1 8 result }
-{
-    larger(1, board[15])
-}
+    // The pass limit.
+    pub fn pass_limit(&self) -> u32
+        ensures { (result ≡ at.pass_limit self.now) × (1 ≤ result) }
+    {
+        self.words[12]
+    }
 
-// p, the distributed refreshes that may be put off.
-pub fn put_off(board: &[u32]) -> u32
-    requires { Sound board.now }
-    ensures { (result ≡ at.put_off board.now) × (result ≤ at.most_put_off) }
-{
-    board[16]
-}
+    // The code blocks that a scratchpad holds.
+    pub fn held_code(&self) -> u32
+        requires { at.memory self.now ≡ 1 }
+        ensures { (result ≡ at.held_code self.now) × (result ≤ at.first_data_block) }
+    {
+        self.words[13]
+    }
 
-// Word `field` of task k.
-fn task_word(board: &[u32], k: usize, field: usize) -> u32
-    requires { (Sound board.now) × (k < at.tasks board.now) × (field < 5) }
-    ensures { result ≡ at.task_word field board.now k }
-{
-    board[20 + 5 * k + field]
-}
+    // The data blocks that a scratchpad holds.
+    pub fn held_data(&self) -> u32
+        ensures { (result ≡ at.held_data self.now) × (result ≤ at.first_data_block) }
+    {
+        self.words[14]
+    }
 
-// The core of task k, from 1.
-pub fn core(board: &[u32], k: usize) -> u32
-    requires { (Sound board.now) × (k < at.tasks board.now) }
-    ensures { (result ≡ at.core board.now k) × Between 1 8 result × (result ≤ at.cores board.now) }
-{
-    task_word(board, k, 0)
-}
+    // c, the sets of a cache, and of the code cache where data has its own.
+    pub fn cache_sets(&self) -> u32
+        requires { 2 ≤ at.memory self.now }
+        ensures { (result ≡ at.cache_sets self.now) × Between 1 at.most_sets result }
+    {
+        self.words[13]
+    }
 
-// T of task k.
-pub fn period(board: &[u32], k: usize) -> u32
-    requires { (Sound board.now) × (k < at.tasks board.now) }
-    ensures { (result ≡ at.period board.now k) × Between 1 at.longest result }
-{
-    task_word(board, k, 1)
-}
+    // The sets of the data cache, where data has its own.
+    pub fn data_sets(&self) -> u32
+        requires { at.memory self.now ≡ 3 }
+        ensures { (result ≡ at.data_sets self.now) × Between 1 at.most_sets result }
+    {
+        self.words[14]
+    }
 
-// D of task k.
-pub fn deadline(board: &[u32], k: usize) -> u32
-    requires { (Sound board.now) × (k < at.tasks board.now) }
-    ensures { (result ≡ at.deadline board.now k) × Between 1 at.longest result }
-{
-    task_word(board, k, 2)
-}
+    // The ways of each cache, where 0 stands for 1.
+    pub fn ways(&self) -> u32
+        ensures { (result ≡ at.ways self.now) × Between 1 8 result }
+    {
+        self.words[15].max(1)
+    }
 
-// The traces of task k.
-pub fn trace_count(board: &[u32], k: usize) -> u32
-    requires { (Sound board.now) × (k < at.tasks board.now) }
-    ensures { (result ≡ at.trace_count board.now k) × Between 1 8 result }
-{
-    task_word(board, k, 3)
-}
+    // p, the distributed refreshes that may be put off.
+    pub fn put_off(&self) -> u32
+        ensures { (result ≡ at.put_off self.now) × (result ≤ at.most_put_off) }
+    {
+        self.words[16]
+    }
 
-// J of task k, its release jitter.
-pub fn jitter(board: &[u32], k: usize) -> u32
-    requires { (Sound board.now) × (k < at.tasks board.now) }
-    ensures { (result ≡ at.jitter board.now k) × (result ≤ at.deadline board.now k) × (result ≤ at.longest) }
-{
-    task_word(board, k, 4)
-}
+    // Word `field` of task k.
+    fn task_word(&self, k: usize, field: usize) -> u32
+        requires { (k < at.tasks self.now) × (field < 5) }
+        ensures word { result ≡ at.task_word field self.now k }
+        ensures sound { Sound self.now }
+    {
+        let words = self.words;
+        words[20 + 5 * k + field]
+    }
 
-// The largest time of task k that is not late: D − J.
-pub fn bound(board: &[u32], k: usize) -> u32
-    requires { (Sound board.now) × (k < at.tasks board.now) }
-    ensures { (result ≡ at.deadline board.now k - at.jitter board.now k) × (result ≤ at.longest) }
-{
-    deadline(board, k) - jitter(board, k)
-}
+    // The core of task k, from 1.
+    pub fn core(&self, k: usize) -> u32
+        requires { k < at.tasks self.now }
+        ensures { (result ≡ at.core self.now k) × Between 1 8 result × (result ≤ at.cores self.now) }
+    {
+        self.task_word(k, 0)
+    }
 
-// The length of trace t.
-pub fn trace_length(board: &[u32], t: usize) -> u32
-    requires { (Sound board.now) × (t < at.traces board.now) }
-    ensures { (result ≡ at.trace_length board.now t) × Between 1 1024 result }
-{
-    let n = index(board[1]);
-    board[20 + 5 * n + t]
+    // T of task k.
+    pub fn period(&self, k: usize) -> u32
+        requires { k < at.tasks self.now }
+        ensures { (result ≡ at.period self.now k) × Between 1 at.longest result }
+    {
+        self.task_word(k, 1)
+    }
+
+    // D of task k.
+    pub fn deadline(&self, k: usize) -> u32
+        requires { k < at.tasks self.now }
+        ensures { (result ≡ at.deadline self.now k) × Between 1 at.longest result }
+    {
+        self.task_word(k, 2)
+    }
+
+    // The traces of task k.
+    pub fn trace_count(&self, k: usize) -> u32
+        requires { k < at.tasks self.now }
+        ensures { (result ≡ at.trace_count self.now k) × Between 1 8 result }
+    {
+        self.task_word(k, 3)
+    }
+
+    // J of task k, its release jitter.
+    pub fn jitter(&self, k: usize) -> u32
+        requires { k < at.tasks self.now }
+        ensures { (result ≡ at.jitter self.now k) × (result ≤ at.deadline self.now k) × (result ≤ at.longest) }
+    {
+        self.task_word(k, 4)
+    }
+
+    // The largest time of task k that is not late: D − J.
+    pub fn bound(&self, k: usize) -> u32
+        requires { k < at.tasks self.now }
+        ensures { (result ≡ at.deadline self.now k - at.jitter self.now k) × (result ≤ at.longest) }
+    {
+        self.deadline(k) - self.jitter(k)
+    }
+
+    // The length of trace t.
+    pub fn trace_length(&self, t: usize) -> u32
+        requires { t < at.traces self.now }
+        ensures { (result ≡ at.trace_length self.now t) × Between 1 1024 result }
+    {
+        let words = self.words;
+        let n = words[1] as usize;
+        words[20 + 5 * n + t]
+    }
 }

@@ -1,8 +1,12 @@
 // A board's layout: its fields, and the numbers that bound them.
 #![tactic(auto)]
 
-pub mod fields;
+mod fields;
+mod kinds;
 pub mod work;
+
+pub use fields::Board;
+pub use kinds::{Bus, Memory, Refresh};
 
 // The words of the largest board.
 pub const MOST_WORDS: usize = 16384;

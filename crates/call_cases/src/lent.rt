@@ -1,35 +1,77 @@
-// `calls::figures` with a table that is handed in by value: it is lent to the call, and then printed with the outcome. Tables of three records and of 64.
-use crate::records::{outcome_large, outcome_small};
-use calls::Figure;
-use folds::wide;
-use std::io::{Error, Stdout};
+// The buffers that a call for C with Analyse's is lent: times and scratch with room for three tasks, and the words of records.
+use crate::print::print_fields;
+use capi::{zuzgravel_analyse, zuzgravel_analyse_in_order, zuzgravel_make_up};
+use std::io::{Error, Stdout, Write};
 
-// What every word of a record is before a call: no task is on core 9.
-pub const MARK: u32 = 9;
-
-pub fn figures_small(out: &mut Stdout, board: &[u32], mut table: [Figure; 3]) -> Result<(), Error> {
-    let outcome = calls::figures(board, &mut table);
-    outcome_small(out, outcome, table)
+#[derive(Drop)]
+pub struct Lent<const N: usize> {
+    pub times: [u32; 6],
+    pub scratch: [u32; 32],
+    pub records: [u32; N],
 }
 
-pub fn figures_large(
-    out: &mut Stdout,
-    board: &[u32],
-    mut table: [Figure; 64],
-) -> Result<(), Error> {
-    let outcome = calls::figures(board, &mut table);
-    outcome_large(out, outcome, table)
+// What such a call hands back: the code of its answer, and the answer's two words.
+#[derive(Clone, Copy)]
+pub struct Reply {
+    pub code: u32,
+    pub words: [u64; 2],
 }
 
-// What a record is before a call.
-pub fn marked() -> Figure {
-    Figure {
-        core: MARK,
-        period: MARK,
-        deadline: MARK,
-        pd: MARK,
-        md: MARK,
-        ecb: [wide(MARK); 4],
-        data_ecb: [wide(MARK); 4],
+impl<const N: usize> Lent<N> {
+    // The six words of times are all 7.
+    pub fn new(records: [u32; N]) -> Self {
+        Lent {
+            times: [7; 6],
+            scratch: [0; 32],
+            records,
+        }
+    }
+
+    pub fn analyse(&mut self, board: &[u32]) -> Reply {
+        let mut words = [0; 2];
+        let code = zuzgravel_analyse(
+            board,
+            &mut self.times,
+            &mut self.scratch,
+            &mut self.records,
+            &mut words,
+        );
+        Reply { code, words }
+    }
+
+    pub fn in_order(&mut self, board: &[u32], order: &[u32]) -> Reply {
+        let mut words = [0; 2];
+        let code = zuzgravel_analyse_in_order(
+            board,
+            &mut self.times,
+            &mut self.scratch,
+            &mut self.records,
+            order,
+            &mut words,
+        );
+        Reply { code, words }
+    }
+
+    pub fn make_up(&mut self, board: &[u32], task: usize, parts: &mut [u64; 6]) -> Reply {
+        let mut words = [0; 2];
+        let code = zuzgravel_make_up(
+            board,
+            &mut self.times,
+            &mut self.scratch,
+            &mut self.records,
+            task,
+            parts,
+            &mut words,
+        );
+        Reply { code, words }
+    }
+
+    // The words of the times and of the records, and the end of the line.
+    pub fn print(&self, out: &mut Stdout) -> Result<(), Error> {
+        write!(out, " |")?;
+        print_fields(out, &self.times)?;
+        write!(out, " |")?;
+        print_fields(out, &self.records)?;
+        writeln!(out)
     }
 }

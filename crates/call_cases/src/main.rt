@@ -5,22 +5,25 @@
 
 mod analyse;
 mod board_page;
+mod halves;
 mod lent;
 mod lines;
 mod make_up;
 mod overheads;
 mod print;
-mod records;
 mod tables;
-mod task;
 mod verdict;
 mod weigh;
 
-ghost use Rattle.std.specs.Prelude.{◌<◌, ◌≤◌, length, IfOk};
-
+use arrayvec::ArrayVec;
 use input::reading::read_full;
-use lines::{Line, read_line};
+use lines::read_words;
 use std::io::{Error, Stdin, Stdout};
+
+// The most words of a line with a board, and of any other line.
+const BOARD_WORDS: usize = 16400;
+
+const CALL_WORDS: usize = 1024;
 
 fn main(rt: HostRuntime) -> Result<(), Error> {
     let mut from = rt.stdin();
@@ -38,61 +41,29 @@ fn one_block(from: &mut Stdin, out: &mut Stdout) -> Result<(), Error> {
 }
 
 fn all_lines(out: &mut Stdout, text: &[u8]) -> Result<(), Error> {
-    let mut board = [0u32; 16400];
-    let mut count = 0;
-    let mut at = 0;
-    while at < text.len() {
-        let line = one_line(out, text, at, &mut board, count)?;
-        count = line.count;
-        at = line.next;
+    let mut board = ArrayVec::<u32, BOARD_WORDS>::new();
+    let mut words = ArrayVec::<u32, CALL_WORDS>::new();
+    for line in text.split(|byte| *byte == b'\n') {
+        if let [b'b', ..] = line {
+            read_words(line, &mut board);
+        } else {
+            read_words(line, &mut words);
+            answer(out, words.as_slice(), board.as_slice())?;
+        }
     }
     Ok(())
 }
 
-// Takes the line that starts at from, where the board has count words: how many it has after the line, and where the next line starts.
-fn one_line(
-    out: &mut Stdout,
-    text: &[u8],
-    from: usize,
-    board: &mut [u32],
-    count: usize,
-) -> Result<Line, Error>
-    requires { (from < length text.now) × (count ≤ length board.old) }
-    ensures { IfOk result (λ line. (from < line.next) × (line.count ≤ length board.new)) }
-{
-    if text[from] == b'b' {
-        Ok(read_line(text, from, board))
-    } else {
-        let next = answer_line(out, text, from, &board[..count])?;
-        Ok(Line { count, next })
+// Answers the call of a line.
+fn answer(out: &mut Stdout, words: &[u32], board: &[u32]) -> Result<(), Error> {
+    match words {
+        [call, given @ ..] => answer_call(out, *call, given, board),
+        [] => Ok(()),
     }
 }
 
-// Answers the call of the line that starts at from, and says where the next line starts.
-fn answer_line(out: &mut Stdout, text: &[u8], from: usize, board: &[u32]) -> Result<usize, Error>
-    requires { from < length text.now }
-    ensures { IfOk result (λ next. from < next) }
-{
-    let mut words = [0u32; 1024];
-    let line = read_line(text, from, &mut words);
-    answer(out, &words[..line.count], board)?;
-    Ok(line.next)
-}
-
-fn answer<'a>(out: &mut Stdout, words: &'a [u32], board: &'a [u32]) -> Result<(), Error> {
-    if 0 < words.len() {
-        answer_call(out, words[0], &words[1..], board)?;
-    }
-    Ok(())
-}
-
-// A call is a file of this crate and an arm here; a line with another number is passed over.
-fn answer_call<'a>(
-    out: &mut Stdout,
-    call: u32,
-    given: &'a [u32],
-    board: &'a [u32],
-) -> Result<(), Error> {
+// A call is a function of this crate and an arm here, by the number that the input has for it; a line with another number is passed over.
+fn answer_call(out: &mut Stdout, call: u32, given: &[u32], board: &[u32]) -> Result<(), Error> {
     match call {
         1 => verdict::answer(out, board),
         2 => tables::figures_of_64(out, board),

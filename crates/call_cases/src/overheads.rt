@@ -1,17 +1,15 @@
 // Calls 8 and 9: the overhead of two tasks, and rows of overheads, by `calls::overhead`.
-use crate::print::{end_line, print_field};
-use crate::records::print_outcome;
-use crate::task::task;
-use calls::{Outcome, overhead};
-use folds::index;
+use crate::halves::task;
+use crate::print::print_outcome;
+use calls::overhead;
 use std::io::{Error, Stdout, Write};
 
 // The words are the halves of i and of j. The overhead, or `bad` with number and place.
 pub fn one(out: &mut Stdout, given: &[u32], board: &[u32]) -> Result<(), Error> {
-    if given.len() == 4 {
+    if let [i_low, i_high, j_low, j_high] = given {
         print_outcome(
             out,
-            overhead(board, task(given[0], given[1]), task(given[2], given[3])),
+            overhead(board, task(*i_low, *i_high), task(*j_low, *j_high)),
         )?;
     }
     Ok(())
@@ -19,35 +17,23 @@ pub fn one(out: &mut Stdout, given: &[u32], board: &[u32]) -> Result<(), Error> 
 
 // The word is n. A line for each task i from 1 to n: `gamma` and the overheads γ(i, j) of the tasks j from 1 to n.
 pub fn rows(out: &mut Stdout, given: &[u32], board: &[u32]) -> Result<(), Error> {
-    if given.len() == 1 {
-        let n = index(given[0]);
-        let mut i: usize = 0;
-        while i < n {
-            i += 1;
+    if let [n] = given {
+        let n = *n as usize;
+        for i in 1..=n {
             row(out, board, i, n)?;
         }
     }
     Ok(())
 }
 
+// An overhead is a field, or `bad` with number and place three.
 fn row(out: &mut Stdout, board: &[u32], i: usize, n: usize) -> Result<(), Error> {
-    out.write_all(b"gamma")?;
-    let mut j: usize = 0;
-    while j < n {
-        j += 1;
-        field(out, overhead(board, i, j))?;
-    }
-    end_line(out)
-}
-
-// The overhead as a field, or `bad` with number and place as three.
-fn field(out: &mut Stdout, outcome: Outcome) -> Result<(), Error> {
-    match outcome {
-        Outcome::Value(gamma) => print_field(out, gamma),
-        Outcome::Refused(number, place) => {
-            out.write_all(b" bad")?;
-            print_field(out, number as u64)?;
-            print_field(out, place as u64)
+    write!(out, "gamma")?;
+    for j in 1..=n {
+        match overhead(board, i, j) {
+            Ok(gamma) => write!(out, " {gamma}")?,
+            Err(refusal) => write!(out, " bad {} {}", refusal.row.number(), refusal.place)?,
         }
     }
+    writeln!(out)
 }

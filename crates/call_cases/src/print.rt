@@ -1,35 +1,35 @@
 // Answers on standard output.
-use folds::wide;
+use calls::Figure;
+use refusals::Refusal;
+use std::fmt::Display;
 use std::io::{Error, Stdout, Write};
 
-pub fn print_number(out: &mut Stdout, x: u64) -> Result<(), Error> {
-    let mut digits = [0u8; 20];
-    let count = io::decimal(x, &mut digits);
-    out.write_all(&digits[..count])
-}
-
-// A space, and the number.
-pub fn print_field(out: &mut Stdout, x: u64) -> Result<(), Error> {
-    out.write_all(b" ")?;
-    print_number(out, x)
-}
-
-// Each of the words as a field.
-pub fn print_fields(out: &mut Stdout, words: &[u32]) -> Result<(), Error> {
-    for word in words {
-        print_field(out, wide(*word))?;
+// Each of the numbers after a space.
+pub fn print_fields<T: Display>(out: &mut Stdout, numbers: &[T]) -> Result<(), Error> {
+    for number in numbers {
+        write!(out, " {number}")?;
     }
     Ok(())
 }
 
-pub fn end_line(out: &mut Stdout) -> Result<(), Error> {
-    out.write_all(b"\n")
+// The value, or the line of a refusal.
+pub fn print_outcome(out: &mut Stdout, outcome: Result<u64, Refusal>) -> Result<(), Error> {
+    match outcome {
+        Ok(value) => writeln!(out, "{value}"),
+        Err(refusal) => print_refusal(out, refusal),
+    }
 }
 
 // The line of a refusal: `bad`, its number and its place.
-pub fn print_refusal(out: &mut Stdout, number: usize, place: usize) -> Result<(), Error> {
-    out.write_all(b"bad")?;
-    print_field(out, number as u64)?;
-    print_field(out, place as u64)?;
-    end_line(out)
+pub fn print_refusal(out: &mut Stdout, refusal: Refusal) -> Result<(), Error> {
+    writeln!(out, "bad {} {}", refusal.row.number(), refusal.place)
+}
+
+// The line of a record: its number from 1, core, T, D, PD, MD and the words of the ECB of each cache.
+pub fn print_record(out: &mut Stdout, number: usize, f: &Figure) -> Result<(), Error> {
+    write!(out, "{number}")?;
+    print_fields(out, &[f.core, f.period, f.deadline, f.pd, f.md])?;
+    print_fields(out, &f.ecb)?;
+    print_fields(out, &f.data_ecb)?;
+    writeln!(out)
 }

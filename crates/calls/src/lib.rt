@@ -1,6 +1,6 @@
 // The public calls: figures, overhead, weigh, analyse, its sibling analyse_in_order, and make_up. The types of their answers and of the table are passed on, so that a
 // caller imports them from here.
-#![tactic(auto)]
+#![tactic(auto, using(crate::proofs::Table::filled))]
 
 ghost use Rattle.std.specs.Prelude.{◌≡◌, length};
 ghost use Rattle.board.specs.Layout.{most_tasks};
@@ -10,13 +10,12 @@ ghost use Rattle.answers.specs.Demand.{Analysed};
 ghost use Rattle.answers.specs.InOrder.{AnalysedInOrder};
 ghost use Rattle.answers.specs.MakeUp.{MadeUpAll};
 
-use answers::MOST_FIGURE_WORDS;
-pub use answers::{Answer, MadeUp, Outcome};
-use board::MOST_TASKS;
-use figures::ECB_WORDS;
+pub use answers::{Answer, MadeUp, PARTS, Part};
+use board::{Board, MOST_TASKS};
 pub use figures::Figure;
+use figures::FigureWords;
 pub use interference::SumParts;
-use refusals::Verdict;
+pub use refusals::{Refusal, Row};
 
 // The response times of a board. Unless refused, the table is filled as `figures` fills it, and the scratch ends with free contents.
 pub fn analyse(
@@ -24,26 +23,17 @@ pub fn analyse(
     times: &mut [u32],
     scratch: &mut [u32],
     table: &mut [Figure],
-) -> Answer
+) -> Result<Answer, Refusal>
     ensures analysed { Analysed board.now times.old scratch.old (length table.old)
         result times.new scratch.new }
     ensures table { table.new ≡ table_after board.now
         (analyse_refusal board.now (length times.old) (length scratch.old) (length table.old))
         table.old }
 {
-    let mut n: usize = 0;
-    let mut words = [0u32; MOST_FIGURE_WORDS];
-    let mut sets = [0u64; ECB_WORDS];
-    let answer = works::analyse(
-        board,
-        times,
-        scratch,
-        table.len(),
-        &mut n,
-        &mut words,
-        &mut sets,
-    );
-    table::fill(board, n, &words, &sets, table);
+    // these lines stand in each call with a table: what a closure that lends the buffers leaves in them is not known to who calls it
+    let mut figures = FigureWords::empty();
+    let answer = works::analyse(board, times, scratch, table.len(), &mut figures);
+    table::fill(board, &figures, table);
     answer
 }
 
@@ -55,27 +45,16 @@ pub fn analyse_in_order<'a>(
     scratch: &mut [u32],
     table: &mut [Figure],
     order: &'a [u32],
-) -> Answer
+) -> Result<Answer, Refusal>
     ensures analysed_in_order { AnalysedInOrder board.now times.old scratch.old (length table.old)
         order.now result times.new scratch.new }
     ensures table { table.new ≡ table_after board.now
         (in_order_refusal board.now (length times.old) (length scratch.old) (length table.old) order.now)
         table.old }
 {
-    let mut n: usize = 0;
-    let mut words = [0u32; MOST_FIGURE_WORDS];
-    let mut sets = [0u64; ECB_WORDS];
-    let answer = works::analyse_in_order(
-        board,
-        times,
-        scratch,
-        table.len(),
-        &mut n,
-        &mut words,
-        &mut sets,
-        order,
-    );
-    table::fill(board, n, &words, &sets, table);
+    let mut figures = FigureWords::empty();
+    let answer = works::analyse_in_order(board, times, scratch, table.len(), &mut figures, order);
+    table::fill(board, &figures, table);
     answer
 }
 
@@ -87,84 +66,70 @@ pub fn make_up(
     scratch: &mut [u32],
     table: &mut [Figure],
     task: usize,
-) -> MadeUp
+) -> Result<MadeUp, Refusal>
     ensures made_up_all { MadeUpAll board.now times.old scratch.old (length table.old)
         task result times.new scratch.new }
     ensures table { table.new ≡ table_after board.now
         (make_up_refusal board.now (length times.old) (length scratch.old) (length table.old) task)
         table.old }
 {
-    let mut n: usize = 0;
-    let mut words = [0u32; MOST_FIGURE_WORDS];
-    let mut sets = [0u64; ECB_WORDS];
-    let made = works::make_up(
-        board,
-        times,
-        scratch,
-        table.len(),
-        &mut n,
-        &mut words,
-        &mut sets,
-        task,
-    );
-    table::fill(board, n, &words, &sets, table);
+    let mut figures = FigureWords::empty();
+    let made = works::make_up(board, times, scratch, table.len(), &mut figures, task);
+    table::fill(board, &figures, table);
     made
 }
 
 // `analyse` for callers that want no figures, as the program: it answers as with a table of 64 records, and meets demand 3 as `analyse` does.
-pub fn analyse_alone(board: &[u32], times: &mut [u32], scratch: &mut [u32]) -> Answer
+pub fn analyse_alone(
+    board: &[u32],
+    times: &mut [u32],
+    scratch: &mut [u32],
+) -> Result<Answer, Refusal>
     ensures { Analysed board.now times.old scratch.old most_tasks result times.new scratch.new }
 {
-    let mut n: usize = 0;
-    let mut words = [0u32; MOST_FIGURE_WORDS];
-    let mut sets = [0u64; ECB_WORDS];
-    works::analyse(
-        board, times, scratch, MOST_TASKS, &mut n, &mut words, &mut sets,
-    )
+    let mut figures = FigureWords::empty();
+    works::analyse(board, times, scratch, MOST_TASKS, &mut figures)
 }
 
 // `make_up` for callers that want no figures, as the program: it answers as with a table of 64 records.
-pub fn make_up_alone(board: &[u32], times: &mut [u32], scratch: &mut [u32], task: usize) -> MadeUp
+pub fn make_up_alone(
+    board: &[u32],
+    times: &mut [u32],
+    scratch: &mut [u32],
+    task: usize,
+) -> Result<MadeUp, Refusal>
     ensures { MadeUpAll board.now times.old scratch.old most_tasks task result times.new scratch.new }
 {
-    let mut n: usize = 0;
-    let mut words = [0u32; MOST_FIGURE_WORDS];
-    let mut sets = [0u64; ECB_WORDS];
-    works::make_up(
-        board, times, scratch, MOST_TASKS, &mut n, &mut words, &mut sets, task,
-    )
+    let mut figures = FigureWords::empty();
+    works::make_up(board, times, scratch, MOST_TASKS, &mut figures, task)
 }
 
 // The figures of every task, one record a task; the later records are untouched. Answers the number of records filled.
-pub fn figures(board: &[u32], table: &mut [Figure]) -> Outcome
+pub fn figures(board: &[u32], table: &mut [Figure]) -> Result<u64, Refusal>
     ensures answer { result ≡ figures_answer board.now (length table.old) }
     ensures table { table.new ≡ table_after board.now
         (figures_refusal board.now (length table.old)) table.old }
 {
-    let mut n: usize = 0;
-    let mut words = [0u32; MOST_FIGURE_WORDS];
-    let mut sets = [0u64; ECB_WORDS];
-    let outcome = works::figures(board, table.len(), &mut n, &mut words, &mut sets);
-    table::fill(board, n, &words, &sets, table);
+    let mut figures = FigureWords::empty();
+    let outcome = works::figures(board, table.len(), &mut figures);
+    table::fill(board, &figures, table);
     outcome
 }
 
 // The pre-emption overhead γ(i, j); tasks are their numbers from 1.
-pub fn overhead(board: &[u32], i: usize, j: usize) -> Outcome
+#[tactic(auto, using(answers::proofs::Outcomes::outcomes), unfolding(answers::specs::Answers::overhead_answer))]
+pub fn overhead(board: &[u32], i: usize, j: usize) -> Result<u64, Refusal>
     ensures { result ≡ overhead_answer board.now i j }
 {
-    match checks::check_overhead(board, i, j) {
-        Verdict::Passed => Outcome::Value(answers::taken::overhead(board, i, j)),
-        Verdict::Refused(number, place) => Outcome::Refused(number, place),
-    }
+    checks::check_overhead(board, i, j)?;
+    Ok(answers::taken::overhead(&Board::of(board), i, j))
 }
 
 // The sum of task i at the times; a task is its number from 1.
-pub fn weigh(board: &[u32], times: &[u32], i: usize) -> Outcome
+#[tactic(auto, using(answers::proofs::Outcomes::outcomes), unfolding(answers::specs::Answers::weigh_answer))]
+pub fn weigh(board: &[u32], times: &[u32], i: usize) -> Result<u64, Refusal>
     ensures { result ≡ weigh_answer board.now times.now i }
 {
-    match checks::check_weigh(board, times, i) {
-        Verdict::Passed => Outcome::Value(answers::taken::sum(board, times, i)),
-        Verdict::Refused(number, place) => Outcome::Refused(number, place),
-    }
+    checks::check_weigh(board, times, i)?;
+    Ok(answers::taken::sum(&Board::of(board), times, i))
 }

@@ -1,8 +1,9 @@
 // The calls for C and Rust, on numbers and word slices; `capi_c` exports them for C, and include/zuzgravel.h declares them. Each takes every input, returns a code,
 // and puts the two numbers of its answer into the two words of `answer`, also where it refuses.
-#![tactic(auto)]
+#![tactic(auto, using(replies::proofs::Records::filled))]
 
-ghost use Rattle.std.specs.Prelude.{◌≡◌, length};
+ghost use Rattle.std.specs.Prelude.{Result, ◌≡◌, length};
+ghost use Rattle.refusals.specs.declared.Refusal.{Refusal};
 ghost use Rattle.answers.specs.declared.Answer.{Answer};
 ghost use Rattle.answers.specs.declared.MadeUp.{MadeUp};
 ghost use Rattle.checks.specs.CallRefusals.{figures_refusal, analyse_refusal, in_order_refusal, make_up_refusal};
@@ -13,8 +14,7 @@ ghost use Rattle.answers.specs.MakeUp.{MadeUpAll};
 ghost use Rattle.replies.specs.Replies.{outcome_code, outcome_words, answer_code, answer_words, made_up_code, made_up_words, parts_after};
 ghost use Rattle.replies.specs.Records.{record_room, records_after};
 
-use answers::MOST_FIGURE_WORDS;
-use figures::ECB_WORDS;
+use figures::FigureWords;
 use replies::parts::of_made_up;
 use replies::reply::{of_answer, of_outcome};
 use replies::table::{RECORD_WORDS, fill_words};
@@ -26,17 +26,10 @@ pub fn zuzgravel_figures(board: &[u32], records: &mut [u32], answer: &mut [u64; 
     ensures records { records.new ≡ records_after board.now
         (figures_refusal board.now (record_room records.old)) records.old }
 {
-    let mut n: usize = 0;
-    let mut words = [0u32; MOST_FIGURE_WORDS];
-    let mut sets = [0u64; ECB_WORDS];
-    let outcome = works::figures(
-        board,
-        records.len() / RECORD_WORDS,
-        &mut n,
-        &mut words,
-        &mut sets,
-    );
-    fill_words(board, n, &words, &sets, records);
+    // these lines stand in each call with records, as in crate `calls`: what a closure that lends the buffers leaves in them is not known to who calls it
+    let mut figures = FigureWords::empty();
+    let outcome = works::figures(board, records.len() / RECORD_WORDS, &mut figures);
+    fill_words(board, &figures, records);
     of_outcome(outcome, answer)
 }
 
@@ -64,17 +57,15 @@ pub fn zuzgravel_analyse(
     records: &mut [u32],
     answer: &mut [u64; 2],
 ) -> u32
-    ensures reply { (r : Answer) × (result ≡ answer_code r) × (answer.new ≡ answer_words r)
+    ensures reply { (r : Result Answer Refusal) × (result ≡ answer_code r) × (answer.new ≡ answer_words r)
         × Analysed board.now times.old scratch.old (record_room records.old) r times.new scratch.new }
     ensures records { records.new ≡ records_after board.now
         (analyse_refusal board.now (length times.old) (length scratch.old) (record_room records.old)) records.old }
 {
-    let mut n: usize = 0;
-    let mut words = [0u32; MOST_FIGURE_WORDS];
-    let mut sets = [0u64; ECB_WORDS];
+    let mut figures = FigureWords::empty();
     let room = records.len() / RECORD_WORDS;
-    let found = works::analyse(board, times, scratch, room, &mut n, &mut words, &mut sets);
-    fill_words(board, n, &words, &sets, records);
+    let found = works::analyse(board, times, scratch, room, &mut figures);
+    fill_words(board, &figures, records);
     of_answer(found, answer)
 }
 
@@ -87,19 +78,15 @@ pub fn zuzgravel_analyse_in_order<'a>(
     order: &'a [u32],
     answer: &mut [u64; 2],
 ) -> u32
-    ensures reply { (r : Answer) × (result ≡ answer_code r) × (answer.new ≡ answer_words r)
+    ensures reply { (r : Result Answer Refusal) × (result ≡ answer_code r) × (answer.new ≡ answer_words r)
         × AnalysedInOrder board.now times.old scratch.old (record_room records.old) order.now r times.new scratch.new }
     ensures records { records.new ≡ records_after board.now
         (in_order_refusal board.now (length times.old) (length scratch.old) (record_room records.old) order.now) records.old }
 {
-    let mut n: usize = 0;
-    let mut words = [0u32; MOST_FIGURE_WORDS];
-    let mut sets = [0u64; ECB_WORDS];
+    let mut figures = FigureWords::empty();
     let room = records.len() / RECORD_WORDS;
-    let found = works::analyse_in_order(
-        board, times, scratch, room, &mut n, &mut words, &mut sets, order,
-    );
-    fill_words(board, n, &words, &sets, records);
+    let found = works::analyse_in_order(board, times, scratch, room, &mut figures, order);
+    fill_words(board, &figures, records);
     of_answer(found, answer)
 }
 
@@ -114,18 +101,14 @@ pub fn zuzgravel_make_up(
     parts: &mut [u64; 6],
     answer: &mut [u64; 2],
 ) -> u32
-    ensures reply { (r : MadeUp) × (result ≡ made_up_code r) × (answer.new ≡ made_up_words r) × (parts.new ≡ parts_after r parts.old)
+    ensures reply { (r : Result MadeUp Refusal) × (result ≡ made_up_code r) × (answer.new ≡ made_up_words r) × (parts.new ≡ parts_after r parts.old)
         × MadeUpAll board.now times.old scratch.old (record_room records.old) task r times.new scratch.new }
     ensures records { records.new ≡ records_after board.now
         (make_up_refusal board.now (length times.old) (length scratch.old) (record_room records.old) task) records.old }
 {
-    let mut n: usize = 0;
-    let mut words = [0u32; MOST_FIGURE_WORDS];
-    let mut sets = [0u64; ECB_WORDS];
+    let mut figures = FigureWords::empty();
     let room = records.len() / RECORD_WORDS;
-    let made = works::make_up(
-        board, times, scratch, room, &mut n, &mut words, &mut sets, task,
-    );
-    fill_words(board, n, &words, &sets, records);
+    let made = works::make_up(board, times, scratch, room, &mut figures, task);
+    fill_words(board, &figures, records);
     of_made_up(made, parts, answer)
 }

@@ -1,7 +1,8 @@
 // The calls of `capi` as the static library exports them for C; include/zuzgravel.h declares them. In C an array is one pointer, with no length.
 #![tactic(auto)]
 
-ghost use Rattle.std.specs.Prelude.{◌≡◌, length};
+ghost use Rattle.std.specs.Prelude.{Result, ◌≡◌, length};
+ghost use Rattle.refusals.specs.declared.Refusal.{Refusal};
 ghost use Rattle.answers.specs.declared.Answer.{Answer};
 ghost use Rattle.answers.specs.declared.MadeUp.{MadeUp};
 ghost use Rattle.checks.specs.CallRefusals.{figures_refusal, analyse_refusal, in_order_refusal, make_up_refusal};
@@ -64,7 +65,7 @@ pub extern "C" fn zuzgravel_analyse(
     records: &mut [u32],
     answer: &mut [u64; 2],
 ) -> u32
-    ensures reply { (r : Answer) × (result ≡ answer_code r) × (answer.new ≡ answer_words r)
+    ensures reply { (r : Result Answer Refusal) × (result ≡ answer_code r) × (answer.new ≡ answer_words r)
         × Analysed board.now times.old scratch.old (record_room records.old) r times.new scratch.new }
     ensures records { records.new ≡ records_after board.now
         (analyse_refusal board.now (length times.old) (length scratch.old) (record_room records.old)) records.old }
@@ -82,7 +83,7 @@ pub extern "C" fn zuzgravel_analyse_in_order<'a>(
     order: &'a [u32],
     answer: &mut [u64; 2],
 ) -> u32
-    ensures reply { (r : Answer) × (result ≡ answer_code r) × (answer.new ≡ answer_words r)
+    ensures reply { (r : Result Answer Refusal) × (result ≡ answer_code r) × (answer.new ≡ answer_words r)
         × AnalysedInOrder board.now times.old scratch.old (record_room records.old) order.now r times.new scratch.new }
     ensures records { records.new ≡ records_after board.now
         (in_order_refusal board.now (length times.old) (length scratch.old) (record_room records.old) order.now) records.old }
@@ -102,7 +103,7 @@ pub extern "C" fn zuzgravel_make_up(
     parts: &mut [u64; 6],
     answer: &mut [u64; 2],
 ) -> u32
-    ensures reply { (r : MadeUp) × (result ≡ made_up_code r) × (answer.new ≡ made_up_words r) × (parts.new ≡ parts_after r parts.old)
+    ensures reply { (r : Result MadeUp Refusal) × (result ≡ made_up_code r) × (answer.new ≡ made_up_words r) × (parts.new ≡ parts_after r parts.old)
         × MadeUpAll board.now times.old scratch.old (record_room records.old) task r times.new scratch.new }
     ensures records { records.new ≡ records_after board.now
         (make_up_refusal board.now (length times.old) (length scratch.old) (record_room records.old) task) records.old }

@@ -4,3 +4,4 @@ pub mod ByTask
 pub mod ByCore
 pub mod Bounds
 pub mod Along
+pub mod Inputs

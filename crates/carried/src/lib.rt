@@ -5,5 +5,5 @@ pub mod cores;
 pub mod others;
 pub mod slots;
 
-// A cap that no sum reaches.
-pub const NO_CAP: u64 = 18446744073709551615;
+// A cap that no sum reaches, since none is as large: `cap <= sum` is then the only test of a loop, where an `Option<u64>` would have it make two.
+pub const NO_CAP: u64 = u64::MAX;

@@ -5,57 +5,32 @@ ghost use Rattle.board.specs.Layout as at;
 ghost use Rattle.board.specs.Sound.{Between};
 ghost use Rattle.sums.specs.Sums.{is_other, over_cores, core_accesses};
 ghost use Rattle.sums.specs.Limits.{most_own_accesses};
-ghost use Rattle.sums.specs.Inputs.{CoresInput};
 
-use crate::cores::core_sum;
-use board::fields::{cores, slots};
-use folds::{smaller, wide};
+use crate::cores::Cores;
 
-// Of A(n, y) within t cycles what the slots of core y let through for each of s accesses of a task on core x, and 0 if y is x. j is task n.
-fn let_through(
-    board: &[u32],
-    links: &[u32],
-    row: &[u32],
-    times: &[u32],
-    t: u64,
-    j: usize,
-    x: u32,
-    y: u32,
-    s: u64,
-) -> u64
-    requires { CoresInput board.now links.now row.now times.now t j × Between 1 (at.cores board.now) y × (3 ≤ at.bus board.now) × (s ≤ most_own_accesses) }
-    ensures { result ≡ only_if (is_other x y)
-        (min (core_accesses board.now times.now t j y) (at.slots board.now y * s)) }
+// Of A(n, y) what the slots of core y let through for each of s accesses of a task on core x, and 0 if y is x.
+fn let_through(cores: &Cores, x: u32, y: u32, s: u64) -> u64
+    requires { let b = cores.now.window.board.now in Between 1 (at.cores b) y × (3 ≤ at.bus b) × (s ≤ most_own_accesses) }
+    ensures { let w = cores.now.window in result ≡ only_if (is_other x y)
+        (min (core_accesses w.board.now w.times.now w.t w.j y) (at.slots w.board.now y * s)) }
 {
     if y == x {
         return 0;
     }
-    let v = wide(slots(board, y));
+    let v = u64::from(cores.window.board.slots(y));
     let cap = v * s;
-    smaller(cap, core_sum(board, links, row, times, t, j, y, cap))
+    cores.core_sum(y, cap).min(cap)
 }
 
 // That of all cores.
-pub fn sum_capped(
-    board: &[u32],
-    links: &[u32],
-    row: &[u32],
-    times: &[u32],
-    t: u64,
-    j: usize,
-    x: u32,
-    s: u64,
-) -> u64
-    requires { CoresInput board.now links.now row.now times.now t j × (3 ≤ at.bus board.now) × (s ≤ most_own_accesses) }
-    ensures { result ≡ over_cores board.now (is_other x)
-        (λ y. min (core_accesses board.now times.now t j y) (at.slots board.now y * s)) }
+pub fn sum_capped(cores: &Cores, x: u32, s: u64) -> u64
+    requires { (3 ≤ at.bus cores.now.window.board.now) × (s ≤ most_own_accesses) }
+    ensures { let w = cores.now.window in result ≡ over_cores w.board.now (is_other x)
+        (λ y. min (core_accesses w.board.now w.times.now w.t w.j y) (at.slots w.board.now y * s)) }
 {
-    let n = cores(board);
     let mut sum: u64 = 0;
-    let mut y: u32 = 0;
-    while y < n {
-        sum += let_through(board, links, row, times, t, j, x, y + 1, s);
-        y += 1;
+    for y in 1..cores.window.board.cores() + 1 {
+        sum += let_through(cores, x, y, s);
     }
     sum
 }

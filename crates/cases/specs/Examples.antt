@@ -1,7 +1,7 @@
 -- K1 to K11, the worked examples of document 01, and small examples of document 02's requests (K1 in a chosen order, caches with several ways, K8 with
 -- refreshes put off, a code cache and a data cache), as one theorem about the definitions that the calls' contracts cite, by computation.
 -- Assumes nothing.
-use Rattle.std.specs.Prelude.{ℕ, suc, ◌+◌, ◌*◌, ◌/◌, ◌%◌, List, [], ◌∷◌, ◌++◌, map, ◌≡◌, refl, leb, length, set}
+use Rattle.std.specs.Prelude.{ℕ, suc, ◌+◌, ◌*◌, ◌/◌, ◌%◌, List, [], ◌∷◌, ◌++◌, map, ◌≡◌, refl, leb, length, set, Result, Ok}
 use Rattle.folds.specs.Folds.{ceil_div, sum_to, max_to, count_to, any_to, first_from, tabulate, join_to, fill_to, same_list}
 use Rattle.bitset.specs.Bits.{word_of, words_of}
 use Rattle.board.specs.Layout.{first_trace, first_instruction, most_sets}
@@ -17,14 +17,16 @@ use Rattle.sums.specs.Cases.{K1, K2, K3, K4, K5, K6, K7, K8, K8_put_off}
 use Rattle.passes.specs.Passes.{pass, times_by, unchanged, changes, passes_by, settled_by, first_late}
 use Rattle.passes.specs.Visits.{in_turn}
 use Rattle.checks.specs.CallRefusals.{figures_refusal, overhead_refusal, analyse_refusal, in_order_refusal}
+use Rattle.refusals.specs.declared.Refusal.{Refusal}
+use Rattle.refusals.specs.declared.Row.TheVariants.{HeaderWord, TaskList}
+use Rattle.cases.specs.Refused.{refused_by}
 use Rattle.answers.specs.Answers.{figures_answer, overhead_answer, settled_answer, analyse_answer, in_order_answer, times_left, times_after}
 use Rattle.input.specs.Input.{words_in, input_refusal}
 use Rattle.text.specs.Text.{digits_of, decimal, line}
 use Rattle.answer_page.specs.AnswerPage.{answer_page}
 use Rattle.page.specs.Page.{board_page, page_of}
 use Rattle.answers.specs.declared.Answer.{Answer}
-use Rattle.answers.specs.declared.Answer.TheVariants.{Times, Late, Spent, Refused}
-use Rattle.answers.specs.declared.Outcome.TheVariants.{Value, Refused as Outcome-as-Refused}
+use Rattle.answers.specs.declared.Answer.TheVariants.{Times, Late, Spent}
 
 -- ---- K1 to K8: boards without a cache, which `sums` has
 
@@ -33,19 +35,19 @@ abbrev lent : List ℕ
 lent = 7 ∷ 7 ∷ 7 ∷ []
 
 -- Analyse's answer, with a scratch of n × n + 4n words and n records
-abbrev answer : List ℕ → Answer
+abbrev answer : List ℕ → Result Answer Refusal
 answer b = analyse_answer b (length lent) 12 2
 
 -- the answer is times, with these passes, and the times buffer begins with these two times
 abbrev Settles : List ℕ → ℕ → ℕ → ℕ → Type 0
-Settles b time1 time2 passes = (answer b ≡ Times passes) × (times_after b (answer b) lent ≡ time1 ∷ time2 ∷ 7 ∷ [])
+Settles b time1 time2 passes = (answer b ≡ Ok (Times passes)) × (times_after b (answer b) lent ≡ time1 ∷ time2 ∷ 7 ∷ [])
 
 -- the answer of Analyse in the order of a list of task numbers; times of K1, with these passes
-abbrev in_order : List ℕ → List ℕ → Answer
+abbrev in_order : List ℕ → List ℕ → Result Answer Refusal
 in_order b order = in_order_answer b (length lent) 12 2 order
 
 abbrev SettlesIn : List ℕ → List ℕ → ℕ → Type 0
-SettlesIn b order passes = (in_order b order ≡ Times passes) × (times_after b (in_order b order) lent ≡ 35 ∷ 29 ∷ 7 ∷ [])
+SettlesIn b order passes = (in_order b order ≡ Ok (Times passes)) × (times_after b (in_order b order) lent ≡ 35 ∷ 29 ∷ 7 ∷ [])
 
 -- the bytes of the words, the lowest first
 abbrev bytes_of : List ℕ → List ℕ
@@ -155,7 +157,7 @@ no_set = 0 ∷ 0 ∷ 0 ∷ 0 ∷ []
 
 -- the board passes the checks of Figures; task 1's MD, and its ECB for each cache, the code's first
 abbrev FiguredBoth : List ℕ → ℕ → List ℕ → List ℕ → Type 0
-FiguredBoth b md first second = (figures_answer b 1 ≡ Value 1) × ((figure_of b 0).md ≡ md) × ((figure_of b 0).ecb ≡ first) × ((figure_of b 0).data_ecb ≡ second)
+FiguredBoth b md first second = (figures_answer b 1 ≡ Ok 1) × ((figure_of b 0).md ≡ md) × ((figure_of b 0).ecb ≡ first) × ((figure_of b 0).data_ecb ≡ second)
 
 -- one cache has its sets in the first, and the second is empty
 abbrev Figured : List ℕ → ℕ → List ℕ → Type 0
@@ -228,8 +230,8 @@ pub examples :
     × (page_of (bytes_of K1) ≡ K1_page)
     × Settles K2 40 29 5
     × Settles K3 35 29 4
-    × (answer K4 ≡ Late 1 4)
-    × (answer (K5 3) ≡ Spent)
+    × (answer K4 ≡ Ok (Late 1 4))
+    × (answer (K5 3) ≡ Ok Spent)
     × Settles (K5 4) 35 29 4
     × Settles (K6 2) 35 34 4
     × Settles (K6 0) 35 34 4
@@ -240,11 +242,11 @@ pub examples :
     × (useful_sets K9 ≡ no_set ∷ set0 ∷ set0 ∷ [])
     × Figured K10 3 set0
     × (useful_sets K10 ≡ no_set ∷ no_set ∷ no_set ∷ [])
-    × (overhead_answer (K11 4) 2 1 ≡ Value 1)
-    × (overhead_answer (K11 5) 2 1 ≡ Value 0)
+    × (overhead_answer (K11 4) 2 1 ≡ Ok 1)
+    × (overhead_answer (K11 5) 2 1 ≡ Ok 0)
     × Figured (set K9 15 1) 2 sets01
     × (useful_sets (set K9 15 1) ≡ useful_sets K9)
-    × (overhead_answer (set (K11 4) 15 1) 2 1 ≡ Value 1)
+    × (overhead_answer (set (K11 4) 15 1) 2 1 ≡ Ok 1)
     × Figured (alone 2 two) 2 set0
     × (useful_blocks (alone 2 two) ≡ 0 ∷ 1 ∷ 2 ∷ 1 ∷ [])
     × Figured (alone 2 three) 6 set0
@@ -254,54 +256,54 @@ pub examples :
     × Figured (alone 4 five) 10 set0
     × Figured (alone 2 refreshed) 3 set0
     × (useful_blocks (alone 2 refreshed) ≡ 0 ∷ 1 ∷ 1 ∷ 1 ∷ 1 ∷ [])
-    × (overhead_answer (below 8 2 two) 2 1 ≡ Value 2)
-    × (overhead_answer (below 5 2 two) 2 1 ≡ Value 0)
-    × (overhead_answer (below 8 1 two) 2 1 ≡ Value 0)
-    × (overhead_answer (below 8 4 three) 2 1 ≡ Value 3)
-    × (figures_answer (alone 3 two) 1 ≡ Outcome-as-Refused 2 15)
-    × (figures_answer (set K1 15 2) 2 ≡ Outcome-as-Refused 2 15)
+    × (overhead_answer (below 8 2 two) 2 1 ≡ Ok 2)
+    × (overhead_answer (below 5 2 two) 2 1 ≡ Ok 0)
+    × (overhead_answer (below 8 1 two) 2 1 ≡ Ok 0)
+    × (overhead_answer (below 8 4 three) 2 1 ≡ Ok 3)
+    × (figures_answer (alone 3 two) 1 ≡ refused_by HeaderWord 15)
+    × (figures_answer (set K1 15 2) 2 ≡ refused_by HeaderWord 15)
     × SettlesIn K1 (1 ∷ 2 ∷ []) 3
     × SettlesIn K1 (2 ∷ 1 ∷ []) 4
     × SettlesIn (K5 3) (1 ∷ 2 ∷ []) 3
-    × (in_order (K5 3) (2 ∷ 1 ∷ []) ≡ Spent)
-    × (in_order K4 (1 ∷ 2 ∷ []) ≡ Late 1 3)
-    × (in_order K1 (3 ∷ []) ≡ Refused 16 1)
-    × (in_order K1 (2 ∷ 3 ∷ []) ≡ Refused 16 1)
-    × (in_order K1 (0 ∷ 0 ∷ []) ≡ Refused 16 0)
-    × (in_order K1 (2 ∷ 2 ∷ []) ≡ Refused 16 1)
+    × (in_order (K5 3) (2 ∷ 1 ∷ []) ≡ Ok Spent)
+    × (in_order K4 (1 ∷ 2 ∷ []) ≡ Ok (Late 1 3))
+    × (in_order K1 (3 ∷ []) ≡ refused_by TaskList 1)
+    × (in_order K1 (2 ∷ 3 ∷ []) ≡ refused_by TaskList 1)
+    × (in_order K1 (0 ∷ 0 ∷ []) ≡ refused_by TaskList 0)
+    × (in_order K1 (2 ∷ 2 ∷ []) ≡ refused_by TaskList 1)
     × Settles (K8_put_off 1) 52 38 4
-    × (answer (set (K8_put_off 1) 22 51) ≡ Late 1 4)
+    × (answer (set (K8_put_off 1) 22 51) ≡ Ok (Late 1 4))
     × Settles (K8_put_off 2) 55 44 5
     × Settles (K8_put_off 8) 61 44 3
-    × (answer (K8_put_off 9) ≡ Refused 2 16)
-    × (answer (set (K8_put_off 1) 8 1) ≡ Refused 2 16)
-    × (answer (set K1 16 1) ≡ Refused 2 16)
+    × (answer (K8_put_off 9) ≡ refused_by HeaderWord 16)
+    × (answer (set (K8_put_off 1) 8 1) ≡ refused_by HeaderWord 16)
+    × (answer (set K1 16 1) ≡ refused_by HeaderWord 16)
     × Figured same_sets 7 sets0123
     × FiguredBoth (split 4 same_sets) 5 sets01 sets023
     × FiguredBoth (split 3 same_sets) 6 sets01 sets12
     × FiguredBoth largest 2 set255 set64
-    × (overhead_answer preempted 2 1 ≡ Value 1)
+    × (overhead_answer preempted 2 1 ≡ Ok 1)
     × Settles preempted 27 102 4
     × (useful_code (split 3 preempted) 1 ≡ 0 ∷ 1 ∷ 2 ∷ 1 ∷ 0 ∷ [])
     × (useful_data (split 3 preempted) 1 ≡ 0 ∷ 0 ∷ 1 ∷ 2 ∷ 1 ∷ [])
-    × (overhead_answer code_touched 2 1 ≡ Value 2)
-    × (overhead_answer data_touched 2 1 ≡ Value 2)
-    × (overhead_answer (split 3 preempted) 2 1 ≡ Value 3)
+    × (overhead_answer code_touched 2 1 ≡ Ok 2)
+    × (overhead_answer data_touched 2 1 ≡ Ok 2)
+    × (overhead_answer (split 3 preempted) 2 1 ≡ Ok 3)
     × Settles (split 3 preempted) 27 107 4
-    × (answer (set (split 3 preempted) 27 106) ≡ Late 2 4)
+    × (answer (set (split 3 preempted) 27 106) ≡ Ok (Late 2 4))
     × FiguredBoth (two_each 1) 7 set0 set0
     × FiguredBoth (two_each 2) 4 set0 set0
     × (useful_code (two_each 2) 0 ≡ 0 ∷ 1 ∷ 2 ∷ 1 ∷ [])
     × (useful_data (two_each 2) 0 ≡ 0 ∷ 1 ∷ 2 ∷ 1 ∷ [])
-    × (overhead_answer (below_each 1) 2 1 ≡ Value 1)
-    × (overhead_answer (below_each 2) 2 1 ≡ Value 4)
-    × (figures_answer (set (split 4 same_sets) 4 4) 1 ≡ Outcome-as-Refused 2 4)
-    × (figures_answer (set (split 4 same_sets) 13 0) 1 ≡ Outcome-as-Refused 2 13)
-    × (figures_answer (set (split 4 same_sets) 13 257) 1 ≡ Outcome-as-Refused 2 13)
-    × (figures_answer (split 0 same_sets) 1 ≡ Outcome-as-Refused 2 14)
-    × (figures_answer (split 257 same_sets) 1 ≡ Outcome-as-Refused 2 14)
-    × (figures_answer (set same_sets 14 1) 1 ≡ Outcome-as-Refused 2 14)
-    × (figures_answer (set (split 4 same_sets) 15 3) 1 ≡ Outcome-as-Refused 2 15)
+    × (overhead_answer (below_each 1) 2 1 ≡ Ok 1)
+    × (overhead_answer (below_each 2) 2 1 ≡ Ok 4)
+    × (figures_answer (set (split 4 same_sets) 4 4) 1 ≡ refused_by HeaderWord 4)
+    × (figures_answer (set (split 4 same_sets) 13 0) 1 ≡ refused_by HeaderWord 13)
+    × (figures_answer (set (split 4 same_sets) 13 257) 1 ≡ refused_by HeaderWord 13)
+    × (figures_answer (split 0 same_sets) 1 ≡ refused_by HeaderWord 14)
+    × (figures_answer (split 257 same_sets) 1 ≡ refused_by HeaderWord 14)
+    × (figures_answer (set same_sets 14 1) 1 ≡ refused_by HeaderWord 14)
+    × (figures_answer (set (split 4 same_sets) 15 3) 1 ≡ refused_by HeaderWord 15)
 unfolding ceil_div sum_to max_to count_to any_to first_from tabulate fill_to same_list word_of words_of first_trace first_instruction header_ranges header_ok task_ranges task_ok work_ok refuse_unless first_bad refuse_first refusal_of among without count_in some_in recent hits miss_count next_hits useful_in place_of trace_of loads trace_pd bus_loads trace_md evicts useful useful_at most_useful task_pd task_md evicting figure_of evicted_by reloads γ added_jitter memory_demand own_accesses carry_in core_accesses lower_accesses interference bus_accesses refreshes higher_work task_sum pass in_turn times_by unchanged changes passes_by settled_by first_late figures_refusal overhead_refusal analyse_refusal in_order_refusal figures_answer overhead_answer settled_answer analyse_answer in_order_answer times_left words_in input_refusal digits_of decimal line join_to answer_page board_page page_of
 examples = (
   (refl, refl),

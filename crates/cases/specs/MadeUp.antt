@@ -1,6 +1,6 @@
 -- How times of K1 to K8 are made up (document 02, change 5), as a theorem about the definitions that the contracts of the call and of its page cite, by computation.
 -- Assumes nothing.
-use Rattle.std.specs.Prelude.{ℕ, ◌/◌, ◌%◌, List, [], ◌∷◌, ◌≡◌, refl, set}
+use Rattle.std.specs.Prelude.{ℕ, ◌/◌, ◌%◌, List, [], ◌∷◌, ◌≡◌, refl, set, Result, Ok}
 use Rattle.folds.specs.Folds.{ceil_div, sum_to, max_to, count_to, any_to, first_from, first_largest, tabulate, join_to, same_list}
 use Rattle.board.specs.Layout.{first_trace, first_instruction}
 use Rattle.ranges.specs.Ranges.{header_ranges, header_ok, task_ranges, task_ok, work_ok}
@@ -14,6 +14,10 @@ use Rattle.sums.specs.Cases.{K1, K4, K5, K6, K8_put_off}
 use Rattle.passes.specs.Passes.{pass, times_by, unchanged, changes, passes_by, settled_by}
 use Rattle.interference.specs.Parts.{sum_parts}
 use Rattle.checks.specs.CallRefusals.{make_up_refusal}
+use Rattle.refusals.specs.declared.Refusal.{Refusal}
+use Rattle.refusals.specs.declared.Row.TheVariants.{FiguresTable, HeaderWord, Scratch, TaskNumber, TimesBuffer}
+use Rattle.answers.specs.PartNumbers.{part_of}
+use Rattle.cases.specs.Refused.{refused_by}
 use Rattle.answers.specs.MakeUp.{settled_made_up, make_up_answer}
 use Rattle.input.specs.Input.{words_in, input_refusal}
 use Rattle.input.specs.Argument.{value_to, number_in}
@@ -21,16 +25,16 @@ use Rattle.text.specs.Text.{digits_of, decimal, line}
 use Rattle.parts_page.specs.PartsPage.{part_name, made_up_page}
 use Rattle.makeup_page.specs.MakeUpPage.{board_made_up, make_up_page}
 use Rattle.answers.specs.declared.MadeUp.{MadeUp}
-use Rattle.answers.specs.declared.MadeUp.TheVariants.{Parts, Spent, Refused}
+use Rattle.answers.specs.declared.MadeUp.TheVariants.{Parts, Spent}
 
 -- the answer for a task, with buffers that are long enough for two
-abbrev made_up : List ℕ → ℕ → MadeUp
+abbrev made_up : List ℕ → ℕ → Result MadeUp Refusal
 made_up b task = make_up_answer b 2 12 2 task
 
 -- the six numbers and the reason
-abbrev six : ℕ → ℕ → ℕ → ℕ → ℕ → ℕ → ℕ → MadeUp
+abbrev six : ℕ → ℕ → ℕ → ℕ → ℕ → ℕ → ℕ → Result MadeUp Refusal
 six work higher own others blocking refresh k =
-    Parts (record { own_work = work; higher_work = higher; core_accesses = own; other_accesses = others; blocking_access = blocking; refreshes = refresh }) k
+    Ok (Parts (record { own_work = work; higher_work = higher; core_accesses = own; other_accesses = others; blocking_access = blocking; refreshes = refresh }) (part_of k))
 
 -- K1 with both tasks on core 1 and 33 cycles of work in task 1
 abbrev one_core : List ℕ
@@ -61,18 +65,18 @@ pub make_up_examples :
     × (made_up K1 2 ≡ six 4 0 10 10 5 0 3)
     × (made_up K4 1 ≡ six 5 0 15 10 5 0 3)
     × (made_up K4 2 ≡ six 4 0 10 10 5 0 3)
-    × (made_up (K5 3) 1 ≡ Spent)
+    × (made_up (K5 3) 1 ≡ Ok Spent)
     × (made_up (K5 4) 1 ≡ six 5 0 15 10 5 0 3)
     × (made_up (K6 2) 2 ≡ six 4 0 10 15 5 0 4)
     × (made_up (K8_put_off 8) 2 ≡ six 4 0 10 10 5 15 6)
     × (made_up one_core 2 ≡ six 4 33 25 0 5 0 2)
-    × (made_up K1 0 ≡ Refused 10 0)
-    × (made_up K1 3 ≡ Refused 10 3)
-    × (make_up_answer K1 1 11 1 3 ≡ Refused 10 3)
-    × (make_up_answer K1 1 11 1 2 ≡ Refused 11 1)
-    × (make_up_answer K1 2 11 1 2 ≡ Refused 12 11)
-    × (make_up_answer K1 2 12 1 2 ≡ Refused 13 1)
-    × (make_up_answer (set K1 12 0) 1 11 1 3 ≡ Refused 2 12)
+    × (made_up K1 0 ≡ refused_by TaskNumber 0)
+    × (made_up K1 3 ≡ refused_by TaskNumber 3)
+    × (make_up_answer K1 1 11 1 3 ≡ refused_by TaskNumber 3)
+    × (make_up_answer K1 1 11 1 2 ≡ refused_by TimesBuffer 1)
+    × (make_up_answer K1 2 11 1 2 ≡ refused_by Scratch 11)
+    × (make_up_answer K1 2 12 1 2 ≡ refused_by FiguresTable 1)
+    × (make_up_answer (set K1 12 0) 1 11 1 3 ≡ refused_by HeaderWord 12)
     × (make_up_page (50 ∷ []) (bytes_of K1) ≡ K1_page)
 unfolding ceil_div sum_to max_to count_to any_to first_from first_largest tabulate same_list first_trace first_instruction header_ranges header_ok task_ranges task_ok work_ok refuse_unless first_bad refuse_first refusal_of trace_of loads trace_pd bus_loads trace_md evicts useful useful_at most_useful task_pd task_md evicting evicted_by reloads γ added_jitter memory_demand own_accesses carry_in core_accesses lower_accesses interference bus_accesses refreshes higher_work task_sum six_parts reason pass times_by unchanged changes passes_by settled_by sum_parts make_up_refusal settled_made_up make_up_answer words_in input_refusal value_to number_in total digits_of decimal line join_to part_name made_up_page board_made_up make_up_page
 make_up_examples = (refl, refl, refl, refl, refl, refl, refl, refl, refl, refl, refl, refl, refl, refl, refl, refl, refl)

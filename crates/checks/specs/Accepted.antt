@@ -1,20 +1,23 @@
 -- For the code: what is known where a call is not refused; the laws in proofs/Accepted.antt derive it.
 -- Assumes nothing.
-use Rattle.std.specs.Prelude.{ℕ, ◌≤◌, ◌<◌, List, ◌≡◌}
+use Rattle.std.specs.Prelude.{ℕ, ◌≤◌, List, ◌≡◌, Result, Ok, Err}
 use Rattle.passes.specs.Visits.{Permutation}
 use Rattle.board.specs.Layout as at
 use Rattle.board.specs.Sound.{Between, Sound}
 use Rattle.refusals.specs.Refusals.{refusal_of}
-use Rattle.refusals.specs.declared.Verdict.{Verdict}
-use Rattle.refusals.specs.declared.Verdict.TheVariants.{Passed}
+use Rattle.refusals.specs.declared.Refusal.{Refusal}
 use Rattle.sums.specs.Inputs.{CappedTimes}
 
--- the verdict of a board's own rows, with its tasks where it passes, and 0 where not
-pub record Judged (b : List ℕ) (v : Verdict) (n : ℕ) : Type 0 where
-  pub rows : v ≡ refusal_of b
-  pub tasks : v ≡ Passed → n ≡ at.tasks b
-  pub some : 0 < n → v ≡ Passed
+-- n is the tasks of a board that passes its own rows
+pub record PassedWith (b : List ℕ) (n : ℕ) : Type 0 where
+  pub passed : refusal_of b ≡ Ok tt
+  pub tasks : n ≡ at.tasks b
   pub few : n ≤ at.most_tasks
+
+-- what a board's own rows say: its tasks where it passes, and else what refuses
+abbrev pub Judged : List ℕ → Result ℕ Refusal → Type 0
+Judged b (Ok n) = PassedWith b n
+Judged b (Err refusal) = refusal_of b ≡ Err refusal
 
 pub record FiguresTaken (b : List ℕ) (room : ℕ) : Type 0 where
   pub sound : Sound b

@@ -8,85 +8,65 @@ ghost use Rattle.std.specs.Prelude.{◌≡◌};
 ghost use Rattle.checks.specs.CallRefusals.{figures_refusal, overhead_refusal, weigh_refusal, analyse_refusal, in_order_refusal, make_up_refusal};
 
 use order::order_row;
-use refusals::{Verdict, or_else};
+use refusals::Verdict;
+pub use rows::Lengths;
 use rows::{board_rows, buffer_rows, table_row, task_row, time_row, times_row};
 
 // What `figures` checks, its table being of this many records.
+#[tactic(auto, using(refusals::proofs::Verdicts::chain), unfolding(crate::specs::CallRefusals::figures_refusal))]
 pub fn check_figures(board: &[u32], room: usize) -> Verdict
     ensures { result ≡ figures_refusal board.now room }
 {
-    let c = board_rows(board);
-    let n = c.tasks;
-    let v = c.verdict;
-    or_else(v, table_row(n, room))
+    let n = board_rows(board)?;
+    table_row(n, room)
 }
 
 // What `overhead` checks.
+#[tactic(auto, using(refusals::proofs::Verdicts::chain), unfolding(crate::specs::CallRefusals::overhead_refusal))]
 pub fn check_overhead(board: &[u32], i: usize, j: usize) -> Verdict
     ensures { result ≡ overhead_refusal board.now i j }
 {
-    let c = board_rows(board);
-    let n = c.tasks;
-    let v = c.verdict;
-    or_else(v, or_else(task_row(n, i), task_row(n, j)))
+    let n = board_rows(board)?;
+    task_row(n, i)?;
+    task_row(n, j)
 }
 
 // What `weigh` checks.
-pub fn check_weigh(board: &[u32], times: &[u32], i: usize) -> Verdict
-    ensures { result ≡ weigh_refusal board.now times.now i }
+#[tactic(auto, using(crate::proofs::Checks::lengths), unfolding(crate::specs::CallRefusals::weigh_refusal))]
+pub fn check_weigh(board: &[u32], times: &[u32], number: usize) -> Verdict
+    ensures { result ≡ weigh_refusal board.now times.now number }
 {
-    let c = board_rows(board);
-    let n = c.tasks;
-    let v = c.verdict;
-    let over = time_row(board, times, n);
-    or_else(
-        v,
-        or_else(task_row(n, i), or_else(times_row(n, times.len()), over)),
-    )
+    let n = board_rows(board)?;
+    task_row(n, number)?;
+    times_row(n, times.len())?;
+    time_row(board, times, n)
 }
 
-// What `analyse` checks, its buffers being of these lengths.
-pub fn check_analyse(board: &[u32], times: usize, scratch: usize, room: usize) -> Verdict
-    ensures { result ≡ analyse_refusal board.now times scratch room }
+// What `analyse` checks.
+#[tactic(auto, using(refusals::proofs::Verdicts::chain), unfolding(crate::specs::CallRefusals::analyse_refusal))]
+pub fn check_analyse(board: &[u32], lengths: Lengths) -> Verdict
+    ensures { result ≡ analyse_refusal board.now lengths.times lengths.scratch lengths.table }
 {
-    let c = board_rows(board);
-    let n = c.tasks;
-    let v = c.verdict;
-    or_else(v, buffer_rows(n, times, scratch, room))
+    let n = board_rows(board)?;
+    buffer_rows(n, lengths)
 }
 
-// What `analyse_in_order` checks, its buffers being of these lengths.
-pub fn check_in_order<'a>(
-    board: &'a [u32],
-    times: usize,
-    scratch: usize,
-    room: usize,
-    order: &'a [u32],
-) -> Verdict
-    ensures { result ≡ in_order_refusal board.now times scratch room order.now }
+// What `analyse_in_order` checks.
+#[tactic(auto, using(refusals::proofs::Verdicts::chain), unfolding(crate::specs::CallRefusals::in_order_refusal))]
+pub fn check_in_order(board: &[u32], lengths: Lengths, order: &[u32]) -> Verdict
+    ensures { result ≡ in_order_refusal board.now lengths.times lengths.scratch lengths.table order.now }
 {
-    let c = board_rows(board);
-    let n = c.tasks;
-    let v = c.verdict;
-    let buffers = buffer_rows(n, times, scratch, room);
-    let listed = order_row(n, order);
-    or_else(v, or_else(buffers, listed))
+    let n = board_rows(board)?;
+    buffer_rows(n, lengths)?;
+    order_row(n, order)
 }
 
-// What `make_up` checks, its buffers being of these lengths.
-pub fn check_make_up(
-    board: &[u32],
-    times: usize,
-    scratch: usize,
-    room: usize,
-    task: usize,
-) -> Verdict
-    ensures { result ≡ make_up_refusal board.now times scratch room task }
+// What `make_up` checks.
+#[tactic(auto, using(refusals::proofs::Verdicts::chain), unfolding(crate::specs::CallRefusals::make_up_refusal))]
+pub fn check_make_up(board: &[u32], lengths: Lengths, task: usize) -> Verdict
+    ensures { result ≡ make_up_refusal board.now lengths.times lengths.scratch lengths.table task }
 {
-    let c = board_rows(board);
-    let n = c.tasks;
-    let v = c.verdict;
-    let number = task_row(n, task);
-    let buffers = buffer_rows(n, times, scratch, room);
-    or_else(v, or_else(number, buffers))
+    let n = board_rows(board)?;
+    task_row(n, task)?;
+    buffer_rows(n, lengths)
 }

@@ -9,7 +9,18 @@ use native.Mathlib.Omega.{arith}
 use borrow.Author.Tests.{eq-eqb, ne_eqb, le-leb, lt-leb}
 use lib.ListN.{get_or, set}
 use lib.Seq.{get_or-set_other}
-use Rattle.entries.specs.Entries.{is_of, is_earlier, found, shifted}
+use Rattle.std.proofs.Common.{None, Some}
+use Rattle.entries.specs.Entries.{is_of, is_earlier, found, position_of, shifted}
+
+-- ---- the position of a load that hits
+
+pub position_of-none : (n : ℕ) → position_of n ≡ None → n ≡ 0
+position_of-none zero e = refl
+position_of-none (suc p) e = cc
+
+pub position_of-some : (n p : ℕ) → position_of n ≡ Some p → n ≡ suc p
+position_of-some zero p e = cc
+position_of-some (suc q) p e = cc
 
 module _ (base x : ℕ) where
   -- ---- from entry k on, up to the end

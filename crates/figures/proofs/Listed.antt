@@ -2,14 +2,14 @@
 -- Assumes nothing.
 use Prim.Native.Nat.{ℕ, ◌+◌, ◌-◌, ◌≤◌, ◌<◌, max}
 use mathlib.Core.Bool.{Bool, true, false}
-use mathlib.Core.List.{List}
+use mathlib.Core.List.{List, [], ◌∷◌, ◌++◌}
 use mathlib.Core.Logic.{⊎_elim}
 use mathlib.Core.Path.{◌≡◌, refl, sym, ap, ap₂, subst, ◌∙◌}
 use native.Mathlib.Nat.{eq-or-lt_of_le}
 use native.Mathlib.Numerals.{add-one}
 use native.Mathlib.Omega.{arith}
-use lib.ListN.{length, get_or, set, length-set}
-use lib.Seq.{get_or-set_same, get_or-set_other}
+use lib.ListN.{length, get_or, set, length-set, length-append, get_or-append}
+use lib.Seq.{get_or-set_same, get_or-set_other, get_or-append_seam}
 use Rattle.folds.specs.Folds.{only_if, last_to}
 use Rattle.folds.proofs.Numbers.{le-or-lt}
 use Rattle.folds.proofs.Lists.{fill_to-is}
@@ -27,51 +27,47 @@ module _ (b : List ℕ) (i : ℕ) where
   higher-next q = ap (higher_at b i) (add-one q)
 
   -- no task above is on the core where the list is empty
-  pub higher-none : (list : List ℕ) → Higher b i list → get_or list 0 0 ≡ 0 → (j : ℕ) → j < i → same_core b i j ≡ false
-  higher-none list is e j h = last_to-after (same_core b i) i j (omega (arith, higher-first, is.each 0 (omega arith))) h
+  pub higher-none : (list : List ℕ) → Higher b i list → length list ≡ 0 → (j : ℕ) → j < i → same_core b i j ≡ false
+  higher-none list is e j h = last_to-after (same_core b i) i j (omega (arith, sym higher-first ∙ ap (higher_at b i) (sym e) ∙ is.last)) h
 
-  -- ---- the list made, from task i upwards: m tasks from j on are in it
+  -- ---- the list made, from task i upwards: the tasks from j on are in it
 
-  pub record Listing (j m : ℕ) (list : List ℕ) : Type 0 where
-    pub few : m + j ≤ i
-    pub each : (q : ℕ) → q < m → get_or list q 0 ≡ higher_at b i q
-    pub next : higher_at b i m ≡ last_to (same_core b i) j
+  pub record Listing (j : ℕ) (list : List ℕ) : Type 0 where
+    pub few : length list + j ≤ i
+    pub each : (q : ℕ) → q < length list → get_or list q 0 + 1 ≡ higher_at b i q
+    pub next : higher_at b i (length list) ≡ last_to (same_core b i) j
 
-  pub listing_start : (list : List ℕ) → Listing i 0 list
-  listing_start list = record { few = omega arith; each = λ q h. absurd (omega arith); next = higher-first }
+  pub listing_start : Listing i []
+  listing_start = record { few = omega arith; each = λ q h. absurd (omega arith); next = higher-first }
 
-  -- a word more
-  word_more : (list : List ℕ) (m x : ℕ) → m < length list → ((q : ℕ) → q < m → get_or list q 0 ≡ higher_at b i q) → x ≡ higher_at b i m
-      → (q : ℕ) → q ≤ m → get_or (set list m x) q 0 ≡ higher_at b i q
-  word_more list m x room each is q h =
-      ⊎_elim (λ (e : q ≡ m). ap (λ (k : ℕ). get_or (set list m x) k 0) e ∙ get_or-set_same list m x 0 room ∙ is ∙ ap (higher_at b i) (sym e))
-      (λ (less : q < m). get_or-set_other list m q x 0 (λ e. omega arith) ∙ each q less) (eq-or-lt_of_le h)
-
-  -- task j - 1 is on the core or not: the word of task j stays, or is written again
-  module _ (j m : ℕ) (list : List ℕ) (some : 0 < j) (so_far : Listing j m list) where
+  -- the next task above is on the core or not
+  module _ (j : ℕ) (list : List ℕ) (so_far : Listing j list) (some : 0 < j) where
     last : j - 1 + 1 ≡ j
     last = omega arith
 
-    pub listing-on : m < length list → same_core b i (j - 1) ≡ true → Listing (j - 1) (m + 1) (set list m j)
-    listing-on room e =
-        let own : j ≡ higher_at b i m = sym (so_far.next ∙ ap (last_to (same_core b i)) (sym last) ∙ last_to-here (same_core b i) (j - 1) e ∙ last) in
+    pub listing-on : same_core b i (j - 1) ≡ true → Listing (j - 1) (list ++ (j - 1) ∷ [])
+    listing-on e =
+        let own : j ≡ higher_at b i (length list) = sym (so_far.next ∙ ap (last_to (same_core b i)) (sym last) ∙ last_to-here (same_core b i) (j - 1) e ∙ last) in
+        let size : length (list ++ (j - 1) ∷ []) ≡ length list + 1 = length-append list ((j - 1) ∷ []) in
         record {
-          few = omega (arith, so_far.few);
-          each = λ q h. word_more list m j room so_far.each own q (omega arith);
-          next = higher-next m ∙ ap (λ (k : ℕ). last_to (same_core b i) (k - 1)) (sym own);
+          few = omega (arith, so_far.few, size);
+          each = λ q h.
+              ⊎_elim
+              (λ (e : q ≡ length list). omega (arith, ap (λ (k : ℕ). get_or (list ++ (j - 1) ∷ []) k 0) e, get_or-append_seam list (j - 1) [] 0, own, ap (higher_at b i) e))
+              (λ (less : q < length list). omega (arith, get_or-append list ((j - 1) ∷ []) 0 q less, so_far.each q less))
+              (eq-or-lt_of_le (let l : q ≤ length list = omega (arith, h, size) in l));
+          next = ap (higher_at b i) size ∙ higher-next (length list) ∙ ap (λ (k : ℕ). last_to (same_core b i) (k - 1)) (sym own);
         }
 
-    pub listing-off : same_core b i (j - 1) ≡ false → Listing (j - 1) m (set list m j)
+    pub listing-off : same_core b i (j - 1) ≡ false → Listing (j - 1) list
     listing-off e = record {
       few = omega (arith, so_far.few);
-      each = λ q h. get_or-set_other list m q j 0 (λ z. omega arith) ∙ so_far.each q h;
+      each = so_far.each;
       next = so_far.next ∙ ap (last_to (same_core b i)) (sym last) ∙ last_to-other (same_core b i) (j - 1) e;
     }
 
-  pub listing-end : (j m : ℕ) (list : List ℕ) → j ≡ 0 → m < length list → Listing j m list → Higher b i (set list m 0)
-  listing-end j m list e room all =
-      let none : higher_at b i m ≡ 0 = all.next ∙ ap (last_to (same_core b i)) e ∙ last_to-none (same_core b i) in
-      record { count = m; few = omega (arith, all.few); each = word_more list m 0 room all.each (sym none); last = none }
+  pub listing-end : (list : List ℕ) → Listing 0 list → Higher b i list
+  listing-end list all = record { few = omega (arith, all.few); each = all.each; last = all.next ∙ last_to-none (same_core b i) }
 
   -- ---- a row raised along it by f: the tasks from k on are done
 
@@ -90,35 +86,34 @@ module _ (b : List ℕ) (i : ℕ) where
     other : (j : ℕ) → same_core b i j ≡ false → get_or row₀ j 0 ≡ max (get_or row₀ j 0) (on_core_of b i f j)
     other j e = omega (arith, ap (λ (t : Bool). only_if t (f j)) e)
 
-    -- the next task above, of number n
-    pub raised-next : (k n : ℕ) (row : List ℕ) → n ≡ last_to (same_core b i) k → 0 < n → Raised k row
-        → Raised (n - 1) (set row (n - 1) (max (get_or row (n - 1) 0) (f (n - 1))))
-    raised-next k n row is some so_far = record {
+    -- the next task above
+    pub raised-next : (k n : ℕ) (row : List ℕ) → n + 1 ≡ last_to (same_core b i) k → Raised k row → Raised n (set row n (max (get_or row n 0) (f n)))
+    raised-next k n row is so_far = record {
       low = omega (arith, so_far.low, below);
-      size = length-set row (n - 1) v ∙ so_far.size;
-      done = λ j h l w. ⊎_elim (λ (e : n - 1 ≡ j). own j (sym e) w) (λ (more : n - 1 < j). later j more l w) (eq-or-lt_of_le h);
-      left = λ j h. get_or-set_other row (n - 1) j v 0 (λ e. omega arith) ∙ so_far.left j (omega (arith, below));
-      past = λ j h. get_or-set_other row (n - 1) j v 0 (λ e. omega (arith, below, so_far.low)) ∙ so_far.past j h;
+      size = length-set row n v ∙ so_far.size;
+      done = λ j h l w. ⊎_elim (λ (e : n ≡ j). own j (sym e) w) (λ (more : n < j). later j more l w) (eq-or-lt_of_le h);
+      left = λ j h. get_or-set_other row n j v 0 (λ e. omega arith) ∙ so_far.left j (omega (arith, below));
+      past = λ j h. get_or-set_other row n j v 0 (λ e. omega (arith, below, so_far.low)) ∙ so_far.past j h;
     }
       where
         v : ℕ
-        v = max (get_or row (n - 1) 0) (f (n - 1))
+        v = max (get_or row n 0) (f n)
 
-        below : n ≤ k
+        below : n < k
         below = omega (arith, last_to-low (same_core b i) k)
 
-        passes : same_core b i (n - 1) ≡ true
-        passes = last_to-passes (same_core b i) k (n - 1) (omega arith)
+        passes : same_core b i n ≡ true
+        passes = last_to-passes (same_core b i) k n (sym is)
 
-        own : (j : ℕ) → j ≡ n - 1 → j < length row₀ → get_or (set row (n - 1) v) j 0 ≡ max (get_or row₀ j 0) (on_core_of b i f j)
+        own : (j : ℕ) → j ≡ n → j < length row₀ → get_or (set row n v) j 0 ≡ max (get_or row₀ j 0) (on_core_of b i f j)
         own j e w =
-            ap (λ (m : ℕ). get_or (set row (n - 1) v) m 0) e ∙ get_or-set_same row (n - 1) v 0 (omega (arith, so_far.size))
-            ∙ ap₂ max (so_far.left (n - 1) (omega (arith, below))) (sym (ap (λ (t : Bool). only_if t (f (n - 1))) passes))
+            ap (λ (m : ℕ). get_or (set row n v) m 0) e ∙ get_or-set_same row n v 0 (omega (arith, so_far.size))
+            ∙ ap₂ max (so_far.left n (omega (arith, below))) (sym (ap (λ (t : Bool). only_if t (f n)) passes))
             ∙ ap (λ (m : ℕ). max (get_or row₀ m 0) (on_core_of b i f m)) (sym e)
 
-        later : (j : ℕ) → n - 1 < j → j < i → j < length row₀ → get_or (set row (n - 1) v) j 0 ≡ max (get_or row₀ j 0) (on_core_of b i f j)
+        later : (j : ℕ) → n < j → j < i → j < length row₀ → get_or (set row n v) j 0 ≡ max (get_or row₀ j 0) (on_core_of b i f j)
         later j more l w =
-            get_or-set_other row (n - 1) j v 0 (λ e. omega arith)
+            get_or-set_other row n j v 0 (λ e. omega arith)
             ∙ ⊎_elim (λ (h : k ≤ j). so_far.done j h l w)
             (λ (h : j < k). so_far.left j h ∙ other j (last_to-after (same_core b i) k j (omega arith) h)) (le-or-lt k j)
 
@@ -130,42 +125,38 @@ module _ (b : List ℕ) (i : ℕ) where
         (λ (m : j < k). so_far.left j m ∙ other j (last_to-after (same_core b i) k j (omega arith) m)) (le-or-lt k j))
         so_far.past
 
-    -- ---- the walk along the list: word q of it names the task k - 1, and no count of a task still to come is above `most`
+    -- ---- the walk along the list: its first q tasks are done, and no count of a task still to come is above `most`
 
-    pub record Walk (higher row : List ℕ) (most q k : ℕ) : Type 0 where
-      pub list : Higher b i higher
-      pub within : q ≤ list.count
-      pub place : k ≡ higher_at b i q
+    pub record Walk (row : List ℕ) (most q : ℕ) : Type 0 where
       pub from : ℕ
-      pub next : k ≡ last_to (same_core b i) from
+      pub next : higher_at b i q ≡ last_to (same_core b i) from
       pub so_far : Raised from row
       pub bound : (j : ℕ) → same_core b i j ≡ true → j < from → f j ≤ most
 
-    pub walk_start : (higher : List ℕ) (most k : ℕ) → Higher b i higher → k ≡ get_or higher 0 0 → ((j : ℕ) → f j ≤ most) → Walk higher row₀ most 0 k
-    walk_start higher most k list e bound =
-        let first : k ≡ higher_at b i 0 = e ∙ list.each 0 (omega arith) in
-        record { list = list; within = omega arith; place = first; from = i; next = first ∙ higher-first; so_far = raised-start; bound = λ j on h. bound j }
+    pub walk_start : (most : ℕ) → ((j : ℕ) → f j ≤ most) → Walk row₀ most 0
+    walk_start most bound = record { from = i; next = higher-first; so_far = raised-start; bound = λ j on h. bound j }
 
-    -- the list goes on past a task
-    pub walk-on : {higher row : List ℕ} {most q k : ℕ} → (w : Walk higher row most q k) → 0 < k → q < w.list.count
-    walk-on {q = q} w some = ⊎_elim (λ (e : q ≡ w.list.count). absurd (omega (arith, w.place, ap (higher_at b i) e, w.list.last))) (λ (h : q < w.list.count). h) (eq-or-lt_of_le w.within)
+    module _ (higher : List ℕ) (list : Higher b i higher) {row : List ℕ} {most q : ℕ} (w : Walk row most q) where
+      module _ (j : ℕ) (is : j ≡ get_or higher q 0) (less : q < length higher) where
+        own : j + 1 ≡ last_to (same_core b i) w.from
+        own = omega (arith, is, list.each q less, w.next)
 
-    pub walk_turn : {higher row row' : List ℕ} {most most' q k k' : ℕ} → ((j k : ℕ) → j ≤ k → same_core b i j ≡ true → same_core b i k ≡ true → f j ≤ f k)
-        → (w : Walk higher row most q k) → 0 < k → row' ≡ set row (k - 1) (max (get_or row (k - 1) 0) (f (k - 1))) → f (k - 1) ≤ most' → k' ≡ get_or higher (q + 1) 0
-        → Walk higher row' most' (q + 1) k'
-    walk_turn {higher} {row} {row'} {most} {most'} {q} {k} {k'} rise w some e high e' =
-        let more : q + 1 ≤ w.list.count = omega (arith, walk-on w some) in
-        let place : k' ≡ higher_at b i (q + 1) = e' ∙ w.list.each (q + 1) more in
-        record {
-          list = w.list;
-          within = more;
-          place = place;
-          from = k - 1;
-          next = place ∙ higher-next q ∙ ap (λ (n : ℕ). last_to (same_core b i) (n - 1)) (sym w.place);
-          so_far = subst (Raised (k - 1)) (sym e) (raised-next w.from k row w.next some w.so_far);
-          bound = λ j on h. omega (arith, high, rise j (k - 1) (omega arith) on (last_to-passes (same_core b i) w.from (k - 1) (omega (arith, w.next))));
+        -- the next task is above, and on the core
+        pub walk-above : j < i
+        walk-above = omega (arith, own, last_to-low (same_core b i) w.from, w.so_far.low)
+
+        pub walk-bound : f j ≤ most
+        walk-bound = w.bound j (last_to-passes (same_core b i) w.from j (sym own)) (omega (arith, own, last_to-low (same_core b i) w.from))
+
+        pub walk_turn : {row' : List ℕ} {most' : ℕ} → ((j k : ℕ) → j ≤ k → same_core b i j ≡ true → same_core b i k ≡ true → f j ≤ f k)
+            → row' ≡ set row j (max (get_or row j 0) (f j)) → f j ≤ most' → Walk row' most' (q + 1)
+        walk_turn rise e high = record {
+          from = j;
+          next = higher-next q ∙ ap (last_to (same_core b i)) (let same : higher_at b i q - 1 ≡ j = omega (arith, own, w.next) in same);
+          so_far = subst (Raised j) (sym e) (raised-next w.from j row own w.so_far);
+          bound = λ k on h. omega (arith, high, rise k j (omega arith) on (last_to-passes (same_core b i) w.from j (sym own)));
         }
 
-    -- and ends
-    pub walk_end : {higher row : List ℕ} {most q k : ℕ} → Walk higher row most q k → k ≡ 0 → row ≡ raised (on_core_of b i f) i row₀
-    walk_end {row = row} w none = raised-end w.from row (sym w.next ∙ none) w.so_far
+      -- and ends
+      pub walk_end : q ≡ length higher → row ≡ raised (on_core_of b i f) i row₀
+      walk_end e = raised-end w.from row (sym w.next ∙ ap (higher_at b i) e ∙ list.last) w.so_far

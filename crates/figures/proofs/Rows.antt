@@ -4,6 +4,7 @@ use Prim.Native.Nat.{ℕ, ◌+◌, ◌*◌, ◌≤◌, ◌<◌, max}
 use mathlib.Core.Bool.{Bool, false, true, ◌&&◌}
 use mathlib.Core.List.{List}
 use mathlib.Core.Path.{◌≡◌, refl, sym, ap, ◌∙◌}
+use Rattle.std.proofs.Common.{Option, Some, None, option_map}
 use native.Mathlib.Nat.{mul-le-mul_right, add-mul, one-mul}
 use native.Mathlib.Omega.{arith}
 use lib.Dec.{eqb}
@@ -48,6 +49,24 @@ raised-more b i F G H row out next e q both =
     q ∙ ap (raised (on_core_of b i G) i) e ∙ raised_both (on_core_of b i F) (on_core_of b i G) i row
     ∙ fill_to-cong _ _ row i
     (λ j l. ap (max (get_or row j 0)) (only_if-max (eqb (core b i) (core b j)) (F j) (G j) ∙ ap (only_if (eqb (core b i) (core b j))) (both j)))
+
+-- ---- a row that may not be there
+
+pub row-stays : (raise : List ℕ → List ℕ) (row : Option (List ℕ)) → ((l : List ℕ) → l ≡ raise l) → row ≡ option_map raise row
+row-stays raise None same = refl
+row-stays raise (Some l) same = ap Some (same l)
+
+pub row-absent : (raise : List ℕ → List ℕ) (row : Option (List ℕ)) → ((l : List ℕ) → row ≡ Some l → ⊥) → row ≡ option_map raise row
+row-absent raise None none = refl
+row-absent raise (Some l) none = absurd (none l refl)
+
+pub row-twice : (f g h : List ℕ → List ℕ) (row : Option (List ℕ)) {out next : Option (List ℕ)} → out ≡ option_map f row → next ≡ option_map g out
+    → ((l : List ℕ) → g (f l) ≡ h l) → next ≡ option_map h row
+row-twice f g h row e q both = q ∙ ap (option_map g) e ∙ go row
+  where
+    go : (row : Option (List ℕ)) → option_map g (option_map f row) ≡ option_map h row
+    go None = refl
+    go (Some l) = ap Some (both l)
 
 -- ---- counts by what the tasks of a core evict
 

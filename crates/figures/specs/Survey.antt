@@ -1,6 +1,6 @@
 -- For the code: what the walk over all tasks leaves, as words of two buffers.
 -- Assumes nothing.
-use Rattle.std.specs.Prelude.{ℕ, ◌+◌, ◌*◌, ◌≤◌, ◌<◌, Bool, true, List, ◌≡◌, length, get_or}
+use Rattle.std.specs.Prelude.{ℕ, ◌+◌, ◌*◌, ◌≤◌, ◌<◌, List, ◌≡◌, length, get_or, Option, Some}
 use Rattle.board.specs.Layout.{most_tasks}
 use Rattle.figures.specs.Ready.{Ready}
 use Rattle.figures.specs.Figures.{task_pd, task_md}
@@ -28,9 +28,9 @@ pub record Fillable (b : List ℕ) (n : ℕ) (words sets : List ℕ) : Type 0 wh
   pub room : 4 * n ≤ length words
   pub surveyed : Surveyed b n n words sets
 
--- the PD p, the MD m and, where rows are wanted, the row of task i written to the words; those of the tasks before it stay
-pub record Written (n i p m : ℕ) (rows : Bool) (line before after : List ℕ) : Type 0 where
+-- the PD p, the MD m and, where there is one, the row of task i written to the words; those of the tasks before it stay
+pub record Written (n i p m : ℕ) (line : Option (List ℕ)) (before after : List ℕ) : Type 0 where
   pub pd : get_or after (2 * n + i) 0 ≡ p
   pub md : get_or after (3 * n + i) 0 ≡ m
-  pub row : rows ≡ true → (j : ℕ) → j < n → get_or after (4 * n + (i * n + j)) 0 ≡ get_or line j 0
+  pub row : (l : List ℕ) → line ≡ Some l → (j : ℕ) → j < n → get_or after (4 * n + (i * n + j)) 0 ≡ get_or l j 0
   pub kept : (w : ℕ) → w < 4 * n + i * n → (w ≡ 2 * n + i → ⊥) → (w ≡ 3 * n + i → ⊥) → get_or after w 0 ≡ get_or before w 0

@@ -9,14 +9,17 @@ ghost use Rattle.figures.specs.Figures.{figure_of};
 ghost use Rattle.figures.specs.Survey.{Fillable};
 
 use bitset::SET_WORDS;
-use bitset::records::four;
-use board::{MOST_TASKS, fields};
+use bitset::records::read;
+use board::{Board, MOST_TASKS};
 
 // The words of a set for each task.
 pub const ECB_WORDS: usize = SET_WORDS * MOST_TASKS;
 
+// The words from which the records of the most tasks are filled: four a task.
+pub const MOST_FIGURE_WORDS: usize = 4 * MOST_TASKS;
+
 // One record of the figures table: a task's core, T, D, PD, MD, and an ECB for each cache, the code's first.
-#[derive(Clone, Copy)]
+#[derive(Clone, Copy, Debug, PartialEq, Eq)]
 pub struct Figure {
     pub core: u32,
     pub period: u32,
@@ -27,31 +30,40 @@ pub struct Figure {
     pub data_ecb: [u64; 4],
 }
 
-// The figures of task k, from the words and the sets that hold them.
-pub fn figure_at(
-    board: &[u32],
-    n: usize,
-    words: &[u32],
-    sets: &[u64; ECB_WORDS],
-    k: usize,
-) -> Figure
-    requires { (Fillable board.now n words.now sets.now) × (k < n) }
-    ensures { result ≡ figure_of board.now k }
-{
-    let core = fields::core(board, k);
-    let period = fields::period(board, k);
-    let deadline = fields::deadline(board, k);
-    let pd = words[2 * n + k];
-    let md = words[3 * n + k];
-    let ecb = four(sets, 2 * k);
-    let data_ecb = four(sets, 2 * k + 1);
-    Figure {
-        core,
-        period,
-        deadline,
-        pd,
-        md,
-        ecb,
-        data_ecb,
+// What the figures table is filled from, and how many of its records are: none where a call is refused.
+#[derive(Drop)]
+pub struct FigureWords {
+    pub records: usize,
+    pub words: [u32; MOST_FIGURE_WORDS],
+    pub sets: [u64; ECB_WORDS],
+}
+
+impl FigureWords {
+    // As it is before any figures are worked out.
+    pub fn empty() -> FigureWords
+        ensures { result.records ≡ 0 }
+    {
+        FigureWords {
+            records: 0,
+            words: [0; MOST_FIGURE_WORDS],
+            sets: [0; ECB_WORDS],
+        }
+    }
+
+    // The figures of task k, from the words and the sets that hold them.
+    pub fn figure_at(&self, board: &Board, k: usize) -> Figure
+        requires { (Fillable board.now self.now.records self.now.words self.now.sets) × (k < self.now.records) }
+        ensures { result ≡ figure_of board.now k }
+    {
+        let n = self.records;
+        Figure {
+            core: board.core(k),
+            period: board.period(k),
+            deadline: board.deadline(k),
+            pd: self.words[2 * n + k],
+            md: self.words[3 * n + k],
+            ecb: read(&self.sets, 2 * k),
+            data_ecb: read(&self.sets, 2 * k + 1),
+        }
     }
 }

@@ -1,7 +1,6 @@
 // A row of overheads: word j has γ(i, j) of the task i at hand.
-ghost use Rattle.std.specs.Prelude.{◌≡◌, ℕ, ◌+◌, ◌*◌, ◌<◌, ◌≤◌, max, length, get_or, set};
+ghost use Rattle.std.specs.Prelude.{◌≡◌, ℕ, ◌+◌, ◌*◌, ◌<◌, ◌≤◌, max, get_or, set};
 ghost use Rattle.board.specs.Layout.{most_tasks, scratch_words, most_scratch};
-ghost use Rattle.board.specs.Sound.{Between};
 ghost use Rattle.bitset.specs.Bits.{member};
 ghost use Rattle.bitset.specs.Records.{record_at};
 ghost use Rattle.counts.specs.Counted.{count_by};
@@ -11,9 +10,9 @@ ghost use Rattle.figures.specs.Rows.{Evicted, on_core_of, raised};
 ghost use Rattle.figures.specs.Higher.{Higher};
 
 use super::ECB_WORDS;
-use board::MOST_TASKS;
-use counts::{MOST_COUNTED, count_in};
-use folds::{index, larger};
+use super::higher::HigherTasks;
+use board::{Board, MOST_TASKS};
+use counts::{Counts, MOST_COUNTED};
 
 // Where row i starts in the words of n tasks.
 pub fn place(n: usize, i: usize) -> usize
@@ -23,30 +22,29 @@ pub fn place(n: usize, i: usize) -> usize
     4 * n + i * n
 }
 
-// Raises the row by a point of task i, for each task j above it on its core: by the useful blocks of the point in the sets evicted by j.
-// `live` has their numbers. The lowest task is first: the higher ones on the core evict no more than it.
-pub fn raise(
-    board: &[u32],
-    i: usize,
-    higher: &[u32; MOST_TASKS],
-    evicted: &[u64; ECB_WORDS],
-    live: &[u64],
-    caches: usize,
-    planes: usize,
-    row: &mut [u32; MOST_TASKS],
-)
-    requires { (Ready board.now i) × (Higher board.now i higher.now) × (Evicted board.now i evicted.now) × (Between 1 2 caches) × (planes ≤ 4)
-        × (4 * (planes * caches) ≤ length live.now) }
-    ensures { row.new ≡ raised (on_core_of board.now i
-        (λ (j : ℕ). count_by caches live.now planes (evicted_by board.now j))) i row.old }
-{
-    let mut most: u32 = MOST_COUNTED;
-    let mut q: usize = 0;
-    let mut k = index(higher[0]);
-    while 0 < k {
-        most = raise_word(row, k - 1, most, live, caches, planes, evicted);
-        q += 1;
-        k = index(higher[q]);
+// A task, and what can pre-empt it: the tasks above it on its core, where they are listed, and the sets that each of them evicts: record j has those of task j.
+#[derive(Drop)]
+pub struct Preempted<'a> {
+    pub board: &'a Board<'a>,
+    pub index: usize,
+    pub higher: HigherTasks,
+    pub evicted: &'a [u64; ECB_WORDS],
+    pub ghost ready: { Ready board.now index },
+    pub ghost held: { Evicted board.now index evicted.now },
+}
+
+impl<'a> Preempted<'a> {
+    // Raises the row by a point of the task, for each task j above it on its core: by the useful blocks of the point in the sets evicted by j. `live` has their
+    // numbers. The lowest task is first: the higher ones on the core evict no more than it.
+    pub fn raise(&self, live: &Counts, row: &mut [u32; MOST_TASKS])
+        requires { Higher self.now.board.now self.now.index self.now.higher }
+        ensures { row.new ≡ raised (on_core_of self.now.board.now self.now.index
+            (λ (j : ℕ). count_by live.now.caches live.now.words live.now.planes (evicted_by self.now.board.now j))) self.now.index row.old }
+    {
+        let mut most = MOST_COUNTED;
+        for j in self.higher.tasks() {
+            most = raise_word(row, *j, most, live, self.evicted);
+        }
     }
 }
 
@@ -56,22 +54,19 @@ fn raise_word(
     row: &mut [u32; MOST_TASKS],
     j: usize,
     most: u32,
-    live: &[u64],
-    caches: usize,
-    planes: usize,
+    live: &Counts,
     evicted: &[u64; ECB_WORDS],
 ) -> u32
-    requires { (j < 64) × (Between 1 2 caches) × (planes ≤ 4) × (4 * (planes * caches) ≤ length live.now)
-        × (count_by caches live.now planes (member (record_at 8 evicted.now j)) ≤ most) }
+    requires { (j < 64) × (count_by live.now.caches live.now.words live.now.planes (member (record_at 8 evicted.now j)) ≤ most) }
     ensures { (row.new ≡ set row.old j
-        (max (get_or row.old j 0) (count_by caches live.now planes (member (record_at 8 evicted.now j)))))
-        × (count_by caches live.now planes (member (record_at 8 evicted.now j)) ≤ result) }
+        (max (get_or row.old j 0) (count_by live.now.caches live.now.words live.now.planes (member (record_at 8 evicted.now j)))))
+        × (count_by live.now.caches live.now.words live.now.planes (member (record_at 8 evicted.now j)) ≤ result) }
 {
     let least = row[j];
     if most <= least {
         return most;
     }
-    let count = count_in(live, caches, planes, evicted, j);
-    row[j] = larger(least, count);
+    let count = live.count_in(evicted, j);
+    row[j] = least.max(count);
     count
 }

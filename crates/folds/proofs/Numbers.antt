@@ -1,13 +1,15 @@
 -- Laws of numbers and tests, of division rounded up, and of what counts only where a test holds.
 -- Assumes nothing.
-use Prim.Native.Nat.{ℕ, zero, suc, ◌+◌, ◌-◌, ◌*◌, ◌/◌, ◌≤◌, ◌<◌, min, zero-le}
+use Prim.Native.Nat.{ℕ, zero, suc, ◌+◌, ◌-◌, ◌*◌, ◌/◌, ◌%◌, ◌≤◌, ◌<◌, min, zero-le}
 use mathlib.Core.Bool.{Bool, true, false, ◌&&◌, false≢true}
 use mathlib.Core.Logic.{◌⊎◌, inl, inr, ⊎_elim}
 use mathlib.Core.Path.{◌≡◌, refl, sym, subst, ◌∙◌}
 use native.Mathlib.Decide.{dec_le, ℕ_discrete}
-use native.Mathlib.Nat.{le_refl, mul-le-mul, zero-mul, le_trans, le_of_suc-le-suc, eq-or-lt_of_le, lt_of_not-le, suc-mul, mul-suc, zero-lt-suc, div-zero, div-mul-le_self, le-div_iff_mul-le, div-lt_iff_lt-mul}
+use native.Mathlib.Nat.{le_antisymm, lt_of_mul-lt-mul_right, add-mul, one-mul, le_refl, mul-le-mul, zero-mul, le_trans, le_of_suc-le-suc, eq-or-lt_of_le, lt_of_not-le, suc-mul, mul-suc, zero-lt-suc, div-zero, div-mul-le_self, le-div_iff_mul-le, div-lt_iff_lt-mul}
 use native.Mathlib.Omega.{arith}
+use mir.Val.{bool_byte}
 use lib.Dec.{eqb}
+use Rattle.std.proofs.lemmas.Grind.{div_ceil_times}
 use borrow.Author.Tests.{eq-eqb, ne_eqb}
 use Rattle.folds.specs.Folds.{ceil_div, only_if}
 
@@ -18,12 +20,12 @@ le-or-lt a b = elim (dec_le a b) [ yes h ↦ inl h | no h ↦ inr (lt_of_not-le 
 pub below_suc : (P : ℕ → Type 0) (n : ℕ) → ((k : ℕ) → k < n → P k) → P n → (k : ℕ) → k < suc n → P k
 below_suc P n all here k l = ⊎_elim (λ e. subst P (sym e) here) (λ lt. all k lt) (eq-or-lt_of_le (le_of_suc-le-suc l))
 
--- two tests that both hold
 -- a test that never holds
 pub never_true : (t : Bool) → (t ≡ true → ⊥) → t ≡ false
 never_true true n = absurd (n refl)
 never_true false n = refl
 
+-- two tests that both hold
 pub and_both : (s t : Bool) → (s && t) ≡ true → (s ≡ true) × (t ≡ true)
 and_both true t e = (refl, e)
 and_both false t e = absurd (false≢true e)
@@ -111,3 +113,17 @@ only_if-zero false x e = refl
 pub only_if-and : (a b : Bool) (x : ℕ) → only_if (a && b) x ≡ only_if a (only_if b x)
 only_if-and true b x = refl
 only_if-and false b x = refl
+
+-- a test as a number
+pub only_if-byte : (test : Bool) → bool_byte test ≡ only_if test 1
+only_if-byte true = refl
+only_if-byte false = refl
+
+-- a quotient rounded up, as the library's `div_ceil` gives it
+pub div_ceil-is : (a b : ℕ) → 0 < b → a / b + min 1 (a % b) ≡ ceil_div a b
+div_ceil-is a b pos =
+    let k : ℕ = a / b + min 1 (a % b) in
+    let times = div_ceil_times a b pos in
+    let less : k < ceil_div a b + 1 =
+    lt_of_mul-lt-mul_right b {m = k} {n = ceil_div a b + 1} (omega (arith, times.1, ceil_div-covers a pos, add-mul (ceil_div a b) 1 b, one-mul b)) in
+    le_antisymm (omega (arith, less)) (ceil_div-least pos times.0)

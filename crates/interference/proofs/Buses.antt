@@ -1,7 +1,7 @@
 -- The interference on each bus, from the accesses of the tasks and the cores off a core: t, x and j are the time and the core of task i, and task n, as code
 -- computes them.
 -- Assumes nothing.
-use Prim.Native.Nat.{ℕ, zero, suc, ◌+◌, ◌-◌, ◌*◌, ◌≤◌, ◌<◌, min}
+use Prim.Native.Nat.{ℕ, zero, suc, ◌+◌, ◌-◌, ◌*◌, ◌<◌, min}
 use mathlib.Core.Bool.{Bool, false}
 use mathlib.Core.List.{List}
 use mathlib.Core.Path.{◌≡◌, refl, ◌∙◌}
@@ -18,10 +18,6 @@ use Rattle.carried.specs.Terms.{carried_off, cores_from}
 use Rattle.carried.proofs.OverCores.{other_cores-sides}
 use Rattle.carried.proofs.ByTask.{core_accesses-carried, lower_accesses-carried}
 use Rattle.carried.proofs.ByCore.{cores_before-from, cores_after-from}
-
--- the last of the buses
-pub is-four : (n : ℕ) → n ≤ 4 → (n ≡ 0 → ⊥) → (n ≡ 1 → ⊥) → (n ≡ 2 → ⊥) → (n ≡ 3 → ⊥) → n ≡ 4
-is-four n h none one two three = omega arith
 
 module _ (b R : List ℕ) (i : ℕ) {t x j : ℕ} (s : Sound b) (task : i < tasks b) (now : t ≡ get_or R i 0) (here : x ≡ core b i) (last : j ≡ lowest b) where
   -- A(n, y)
@@ -58,6 +54,11 @@ module _ (b R : List ℕ) (i : ℕ) {t x j : ℕ} (s : Sound b) (task : i < task
       → r ≡ interference b R i 3
   unfolding interference
   round-robin-is r own = r ∙ rw (now, here, last, own)
+
+-- TDMA counts no accesses of other cores
+pub tdma-is : (b R : List ℕ) (i : ℕ) {l v s : ℕ} → l ≡ cores b → v ≡ slots_each b → s ≡ own_accesses b R i → (l - 1) * v * s ≡ interference b R i 4
+unfolding interference
+tdma-is b R i l v s = cc
 
 -- one core: none is off it
 module _ (b R : List ℕ) (i : ℕ) (s : Sound b) (task : i < tasks b) (one : cores b ≡ 1) where

@@ -4,6 +4,7 @@ use Prim.Native.Nat.{ℕ, ◌+◌, ◌*◌}
 use mathlib.Core.List.{List}
 use mathlib.Core.Path.{◌≡◌, refl, ap, ◌∙◌}
 use native.Mathlib.Omega.{arith}
+use Rattle.std.specs.Prelude.{sum}
 use Rattle.folds.specs.Folds.{sum_to}
 use Rattle.board.specs.Layout.{bus, access_cycles}
 use Rattle.figures.specs.Figures.{task_pd}
@@ -17,6 +18,10 @@ use Rattle.interference.specs.Parts.{sum_parts, listed}
 pub total-listed : (p : SumParts) → p.own_work + p.higher_work + p.core_accesses + p.other_accesses + p.blocking_access + p.refreshes ≡ total (listed p)
 unfolding total sum_to
 total-listed p = omega arith
+
+pub sum-listed : (p : SumParts) → sum (listed p) ≡ total (listed p)
+unfolding total sum_to
+sum-listed p = omega arith
 
 -- part by part
 pub parts_are : {p q : SumParts} → p.own_work ≡ q.own_work → p.higher_work ≡ q.higher_work → p.core_accesses ≡ q.core_accesses → p.other_accesses ≡ q.other_accesses → p.blocking_access ≡ q.blocking_access

@@ -3,18 +3,15 @@
 
 ghost use Rattle.std.specs.Prelude.{◌≡◌, ◌<◌, ◌^◌};
 ghost use Rattle.board.specs.Layout.{tasks};
-ghost use Rattle.board.specs.Sound.{Sound};
 ghost use Rattle.figures.specs.Figures.{task_pd};
 ghost use Rattle.sums.specs.Sums.{task_sum};
 ghost use Rattle.sums.specs.SixParts.{total};
 ghost use Rattle.sums.specs.Inputs.{CappedTimes, SumInput};
-ghost use Rattle.interference.specs.declared.SumParts.{SumParts};
 ghost use Rattle.interference.specs.Parts.{sum_parts, listed, counts_of};
 
-use board::fields::{access_cycles, refresh_cycles};
+use board::Board;
 use bus::interference;
-use folds::wide;
-use terms::own::released;
+use terms::own::OwnTask;
 use terms::refresh::refreshes;
 use terms::rows::work;
 
@@ -22,7 +19,7 @@ mod bus;
 
 // The parts of a sum, in cycles: PD, the PD of higher tasks, the accesses of its own core, of other cores, and the one under way,
 // and the refreshes.
-#[derive(Clone, Copy)]
+#[derive(Clone, Copy, Debug, PartialEq, Eq)]
 pub struct SumParts {
     pub own_work: u64,
     pub higher_work: u64,
@@ -32,85 +29,103 @@ pub struct SumParts {
     pub refreshes: u64,
 }
 
+impl SumParts {
+    // The six numbers, in document 02's order.
+    pub fn six(self) -> [u64; 6]
+        ensures { result ≡ listed self }
+    {
+        [
+            self.own_work,
+            self.higher_work,
+            self.core_accesses,
+            self.other_accesses,
+            self.blocking_access,
+            self.refreshes,
+        ]
+    }
+
+    // The parts added up: of the parts of a sum, that sum.
+    pub fn add_parts(self) -> u64
+        requires { total (listed self) < 2 ^ 64 }
+        ensures { result ≡ total (listed self) }
+    {
+        self.six().iter().sum()
+    }
+}
+
+// What a sum counts on its way: the work of higher tasks in cycles, the accesses of its own core, and those of other cores that can delay it.
+#[derive(Clone, Copy, Debug, PartialEq, Eq)]
+pub struct Counted {
+    pub higher_work: u64,
+    pub core_accesses: u64,
+    pub other_accesses: u64,
+}
+
 // Sum_i at these times, as it is printed, from the links of the cores, the tasks' PD and the rows D'(i, _) and D'(n, _). What it counted on the way goes to
-// `counts`, early, so that callers who do not read it pay little.
+// `counts`, early, so that callers who do not read it pay little. The lists come one by one, as parts of the scratch that no struct holds.
 pub fn task_sum(
-    board: &[u32],
+    board: &Board,
     links: &[u32],
     pd: &[u32],
     own: &[u32],
     all: &[u32],
     times: &[u32],
     i: usize,
-    counts: &mut [u64; 3],
+    counts: &mut Counted,
 ) -> u64
     requires { SumInput board.now links.now pd.now own.now all.now times.now i }
     ensures { (result ≡ task_sum board.now times.now i)
         × (counts.new ≡ counts_of board.now times.now i) }
 {
-    let core = released(board, links, pd, own, times, i);
+    let task = OwnTask {
+        board,
+        pd,
+        row: own,
+        times,
+        i,
+    };
+    let core = task.released(links);
     let s = core.accesses;
     let higher = core.work;
-    *counts = [higher, s, 0];
+    *counts = Counted {
+        higher_work: higher,
+        core_accesses: s,
+        other_accesses: 0,
+    };
     let busy = work(board, pd, i) + higher;
     let others = interference(board, links, own, all, times, i, s);
-    counts[2] = others;
+    counts.other_accesses = others;
     let count = s + others + 1;
-    let d = wide(access_cycles(board));
-    let dr = wide(refresh_cycles(board));
+    let d = u64::from(board.access_cycles());
+    let dr = u64::from(board.refresh_cycles());
     busy + count * d + refreshes(board, times, i, count) * dr
 }
 
 // The parts of Sum_i at these times, from PD_i, the sum, and what it counted: the refreshes are what is left of it.
 pub fn task_parts(
-    board: &[u32],
+    board: &Board,
     times: &[u32],
     i: usize,
     pd: u64,
     sum: u64,
-    counts: [u64; 3],
+    counts: Counted,
 ) -> SumParts
-    requires { (Sound board.now) × CappedTimes board.now times.now × (i < tasks board.now) × (pd ≡ task_pd board.now i)
+    requires { CappedTimes board.now times.now × (i < tasks board.now) × (pd ≡ task_pd board.now i)
         × (sum ≡ task_sum board.now times.now i) × (counts ≡ counts_of board.now times.now i) }
     ensures { result ≡ sum_parts board.now times.now i }
 {
-    let d = wide(access_cycles(board));
-    let higher = counts[0];
-    let core = counts[1] * d;
-    let others = counts[2] * d;
-    SumParts {
+    board.sound();
+    let d = u64::from(board.access_cycles());
+    let five = SumParts {
         own_work: pd,
-        higher_work: higher,
-        core_accesses: core,
-        other_accesses: others,
+        higher_work: counts.higher_work,
+        core_accesses: counts.core_accesses * d,
+        other_accesses: counts.other_accesses * d,
         blocking_access: d,
-        refreshes: sum - (pd + higher + core + others + d),
+        refreshes: 0,
+    };
+    SumParts {
+        refreshes: sum - five.add_parts(),
+        ..five
     }
-}
-
-// The six numbers, in document 02's order.
-pub fn six(parts: SumParts) -> [u64; 6]
-    ensures { result ≡ listed parts }
-{
-    [
-        parts.own_work,
-        parts.higher_work,
-        parts.core_accesses,
-        parts.other_accesses,
-        parts.blocking_access,
-        parts.refreshes,
-    ]
-}
-
-// The parts added up: of the parts of a sum, that sum.
-pub fn add_parts(parts: SumParts) -> u64
-    requires { total (listed parts) < 2 ^ 64 }
-    ensures { result ≡ total (listed parts) }
-{
-    parts.own_work
-        + parts.higher_work
-        + parts.core_accesses
-        + parts.other_accesses
-        + parts.blocking_access
-        + parts.refreshes
 }

@@ -4,13 +4,12 @@
 ghost use Rattle.std.specs.Prelude.{◌≡◌, ◌+◌, ◌-◌, ◌<◌};
 ghost use Rattle.folds.specs.Folds.{last_to};
 ghost use Rattle.board.specs.Layout as at;
-ghost use Rattle.board.specs.Sound.{Sound, Between};
+ghost use Rattle.board.specs.Sound.{Between};
 ghost use Rattle.sums.specs.Limits.{most_cores};
-ghost use Rattle.sums.specs.Links.{is_on, LinkedTo, Linked};
+ghost use Rattle.sums.specs.Links.{is_on, Linked};
+ghost use Rattle.linked_tasks.specs.Numbered.{task_numbered};
 
-use board::MOST_TASKS;
-use board::fields::core;
-use folds::index;
+use board::{Board, MOST_TASKS};
 
 // ℓ.
 pub const MOST_CORES: usize = 8;
@@ -23,36 +22,37 @@ fn last_place(y: u32) -> usize
     requires { Between 1 most_cores y }
     ensures { result ≡ at.most_tasks + (y - 1) }
 {
-    MOST_TASKS + (index(y) - 1)
+    MOST_TASKS + (y as usize - 1)
 }
 
-// Makes the links in words that are all 0: for each task, the number from 1 of the next one above it on its core; then, for each core, that of its last
-// task. 0 where there is none.
-pub fn make(board: &[u32], n: usize, links: &mut [u32; LINK_WORDS])
-    requires { (Sound board.now) × (n ≡ at.tasks board.now) × LinkedTo board.now 0 links.old }
-    ensures { Linked board.now links.new }
+// The links: for each task, the number from 1 of the next one above it on its core; then, for each core, that of its last task. 0 where there is none: a
+// number from 1 is one word and `Option<u32>` two, and the sums along the links wait for each of them. Callers get the task itself, or none, from
+// `above` and `last_on`.
+pub fn make(board: &Board) -> [u32; LINK_WORDS]
+    ensures { Linked board.now result }
 {
-    let mut k: usize = 0;
-    while k < n {
-        let at = last_place(core(board, k));
+    let mut links = [0; LINK_WORDS];
+    for k in 0..board.tasks() as usize {
+        let at = last_place(board.core(k));
         links[k] = links[at];
         links[at] = k as u32 + 1;
-        k += 1;
     }
+    links
 }
 
-// The number of the next task above task k on its core.
-pub fn above(board: &[u32], links: &[u32], k: usize) -> usize
-    requires { (Sound board.now) × Linked board.now links.now × (k < at.tasks board.now) }
-    ensures { result ≡ last_to (is_on board.now (at.core board.now k)) k }
+// The next task above task k on its core.
+pub fn above(board: &Board, links: &[u32], k: usize) -> Option<usize>
+    requires { Linked board.now links.now × (k < at.tasks board.now) }
+    ensures { result ≡ task_numbered (last_to (is_on board.now (at.core board.now k)) k) }
 {
-    index(links[k])
+    board.sound();
+    (links[k] as usize).checked_sub(1)
 }
 
-// The number of the last task on core y.
-pub fn last_on(board: &[u32], links: &[u32], y: u32) -> usize
+// The last task on core y.
+pub fn last_on(board: &[u32], links: &[u32], y: u32) -> Option<usize>
     requires { Linked board.now links.now × Between 1 most_cores y }
-    ensures { result ≡ last_to (is_on board.now y) (at.tasks board.now) }
+    ensures { result ≡ task_numbered (last_to (is_on board.now y) (at.tasks board.now)) }
 {
-    index(links[last_place(y)])
+    (links[last_place(y)] as usize).checked_sub(1)
 }

@@ -2,16 +2,14 @@
 -- Assumes nothing.
 use Prim.Native.Nat.{ℕ, ◌-◌, ◌^◌, ◌<◌}
 use mathlib.Core.List.{List}
-use mathlib.Core.Path.{◌≡◌, refl, sym, ap, ◌∙◌}
+use mathlib.Core.Path.{◌≡◌, refl, sym, ap, subst, ◌∙◌}
 use native.Mathlib.Omega.{arith}
-use lib.ListN.{length}
-use Rattle.std.specs.Prelude.{IfSome}
-use Rattle.std.specs.Io.KnownBytes.{Consumes, IsAtEnd}
-use Rattle.std.specs.declared.option.Option.{Option}
+use Rattle.std.specs.Prelude.{Ok, Err, Result}
 use Rattle.board.specs.Layout.{tasks, most_tasks, most_scratch}
 use Rattle.board.specs.Sound.{Sound}
-use Rattle.refusals.specs.declared.Verdict.{Verdict}
-use Rattle.refusals.specs.declared.Verdict.TheVariants.{Passed, Refused as Verdict-as-Refused}
+use Rattle.refusals.specs.Refusals.{Verdict, row_number, refused}
+use Rattle.refusals.specs.declared.Row.{Row}
+use Rattle.refusals.specs.declared.Refusal.{Refusal}
 use Rattle.sums.specs.Sums.{task_sum}
 use Rattle.sums.specs.Inputs.{CappedTimes}
 use Rattle.sums.proofs.Bounds.{task_sum-bound}
@@ -20,7 +18,7 @@ use Rattle.passes.proofs.Settling.{settled-length, settled-capped}
 use Rattle.one_pass.proofs.Sums.{system-ascending}
 use Rattle.checks.proofs.Accepted.{make-up-taken}
 use Rattle.answers.specs.declared.MadeUp.{MadeUp}
-use Rattle.answers.specs.declared.MadeUp.TheVariants.{Parts, Spent, Refused}
+use Rattle.answers.specs.declared.MadeUp.TheVariants.{Parts, Spent}
 use Rattle.checks.specs.CallRefusals.{make_up_refusal}
 use Rattle.answers.specs.Answers.{system}
 use Rattle.answers.specs.MakeUp.{made_up_by, make_up_answer}
@@ -30,8 +28,7 @@ use Rattle.input.specs.Argument.{number_in}
 use Rattle.answer_page.specs.AnswerPage.{bad_line}
 use Rattle.parts_page.specs.PartsPage.{made_up_page}
 use Rattle.parts_page.specs.Printable.{Printable}
-use Rattle.parts_page.proofs.Pages.{printable-as}
-use Rattle.page.proofs.Pages.{input_page-passed, input_page-refused, input_page-whole}
+use Rattle.page.proofs.Pages.{input_page-passed, input_page-refused}
 use Rattle.makeup_page.specs.MakeUpPage.{board_made_up, make_up_page}
 
 -- the sum of a task at the settled times of a sound board is below 2^64
@@ -43,45 +40,39 @@ sum_fits b i s task =
 
 -- what `make_up` answers can be printed: where it does not refuse, the board is sound, the task is one of its tasks, and its sum fits
 module _ (b : List ℕ) (times scratch table task : ℕ) {left : List ℕ} where
-  passed-printable : (r : MadeUp) → make_up_refusal b times scratch table task ≡ Passed → MadeUpOf b times scratch table (task - 1) r left → Printable b task r
+  passed-printable : (r : MadeUp) → make_up_refusal b times scratch table task ≡ Ok tt → MadeUpOf b times scratch table (task - 1) (Ok r) left → Printable b task (Ok r)
   passed-printable (Parts parts k) e promised =
       let taken = make-up-taken b times scratch table task e in
       let within : task - 1 < tasks b = omega (arith, taken.task) in
       let sound = taken.analyse.analysable.sound in
-      (sound, taken.task, omega (arith, promised.sum parts k refl, sum_fits b (task - 1) sound within), (promised.reason parts k refl).0)
+      (sound, taken.task, omega (arith, promised.sum parts k refl, sum_fits b (task - 1) sound within))
   passed-printable Spent e promised = (make-up-taken b times scratch table task e).analyse.analysable.sound
-  passed-printable (Refused number place) e promised = tt
 
-  module _ {r : MadeUp} (answer : r ≡ make_up_answer b times scratch table task)
-      (promised : make_up_refusal b times scratch table task ≡ Passed → MadeUpOf b times scratch table (task - 1) r left) where
-    by-verdict : (v : Verdict) → make_up_refusal b times scratch table task ≡ v → Printable b task r
+  module _ {r : Result MadeUp Refusal} (answer : r ≡ make_up_answer b times scratch table task)
+      (promised : make_up_refusal b times scratch table task ≡ Ok tt → MadeUpOf b times scratch table (task - 1) r left) where
+    by-verdict : (v : Verdict) → make_up_refusal b times scratch table task ≡ v → Printable b task (made_up_by v b (task - 1))
     unfolding make_up_answer
-    by-verdict Passed e = passed-printable r e (promised e)
-    by-verdict (Verdict-as-Refused number place) e =
-        let refused : r ≡ Refused number place = answer ∙ ap (λ (v : Verdict). made_up_by v b (task - 1)) e in
-        printable-as b task (sym refused) tt
+    by-verdict (Ok passed) e =
+        let made : r ≡ made_up_by (Ok passed) b (task - 1) = answer ∙ ap (λ (v : Verdict). made_up_by v b (task - 1)) e in
+        passed-printable _ e (subst (λ (s : Result MadeUp Refusal). MadeUpOf b times scratch table (task - 1) s left) made (promised e))
+    by-verdict (Err refusal) e = tt
 
     pub make-up-printable : Printable b task r
-    make-up-printable = by-verdict (make_up_refusal b times scratch table task) refl
+    unfolding make_up_answer
+    make-up-printable = subst (Printable b task) (sym answer) (by-verdict (make_up_refusal b times scratch table task) refl)
 
 -- the page of `make_up`'s answer is the board's
-pub board_made_up-is : (b : List ℕ) {task number : ℕ} {r : MadeUp} → number ≡ task → r ≡ make_up_answer b most_tasks most_scratch most_tasks number
+pub board_made_up-is : (b : List ℕ) {task number : ℕ} {r : Result MadeUp Refusal} → number ≡ task → r ≡ make_up_answer b most_tasks most_scratch most_tasks number
     → made_up_page b (number - 1) r ≡ board_made_up task b
 unfolding board_made_up
 board_made_up-is b e answer = rw (answer, e)
 
 -- the page of an input that row 15 passes, and of one that it refuses
 module _ (argument bytes : List ℕ) where
-  pub make_up_page-passed : (words : List ℕ) → input_refusal bytes ≡ Passed → words ≡ words_in bytes → board_made_up (number_in argument) words ≡ make_up_page argument bytes
+  pub make_up_page-passed : (words : List ℕ) → input_refusal bytes ≡ Ok tt → words ≡ words_in bytes → board_made_up (number_in argument) words ≡ make_up_page argument bytes
   unfolding make_up_page
   make_up_page-passed = input_page-passed (board_made_up (number_in argument)) bytes
 
-  pub make_up_page-refused : (number place : ℕ) → input_refusal bytes ≡ Verdict-as-Refused number place → bad_line number place ≡ make_up_page argument bytes
+  pub make_up_page-refused : (row : Row) (place : ℕ) → input_refusal bytes ≡ refused row place → bad_line (row_number row) place ≡ make_up_page argument bytes
   unfolding make_up_page
   make_up_page-refused = input_page-refused (board_made_up (number_in argument)) bytes
-
--- the page of what was read of an input: all of it, or at least 65,537 bytes
-pub make_up_page-whole : (argument : List ℕ) (given left : Option (List ℕ)) (bytes : List ℕ) → Consumes given left bytes → (length bytes < 65537 → IsAtEnd left)
-    → IfSome given (λ all. make_up_page argument bytes ≡ make_up_page argument all)
-unfolding make_up_page
-make_up_page-whole argument = input_page-whole (board_made_up (number_in argument))

@@ -14,7 +14,7 @@ use Rattle.folds.specs.Folds.{only_if, count_to, any_to}
 use Rattle.folds.proofs.Folds.{count_to-next}
 use Rattle.bitset.specs.Bits.{member, words_of}
 use Rattle.bitset.proofs.Sets.{words_of-cong}
-use Rattle.board.specs.Layout.{memory, kind_of, block_of, first_data_block}
+use Rattle.board.specs.Layout.{memory, ways, kind_of, block_of, first_data_block}
 use Rattle.lru_cache.specs.Recency.{recent}
 use Rattle.lru_cache.specs.Positions.{position_misses}
 use Rattle.lru_cache.proofs.Positions.{before-none}
@@ -40,12 +40,15 @@ ScannedTo t w base array marks p = Scanned (place_of t.words) w (load_at t) base
 abbrev pub misses : Trace → ℕ → ℕ → Bool
 misses t w = position_misses (place_of t.words) w (load_at t)
 
-module _ (t : Trace) (w base : ℕ) (code datum : Cache) (caches : CachesOf t.words code datum) where
+module _ (t : Trace) (base : ℕ) (code datum : Cache) (caches : CachesOf t.words code datum) where
   abbrev place : ℕ → ℕ
   place = place_of t.words
 
+  abbrev w : ℕ
+  w = ways t.words
+
   -- before the first position nothing is held
-  pub scan-start : (array marks : List ℕ) → 4096 ≤ length array → w ≤ 8 → 2048 ≤ length marks → AllEarlier base array → ScannedTo t w base array marks 0
+  pub scan-start : (array marks : List ℕ) → 4096 ≤ length array → w ≤ 8 → 2048 ≤ length marks → AllEarlier base array → ScannedTo t (ways t.words) base array marks 0
   scan-start array marks room small long all = (
     omega arith,
     long,
@@ -96,39 +99,43 @@ module _ (t : Trace) (w base : ℕ) (code datum : Cache) (caches : CachesOf t.wo
         go (no n) = ap (λ (x : ℕ). not (eqb (kind_of word) 0) && eqb x i) (data_place (omega (arith, n)))
 
     module _ (array array' array'' marks marks' marks'' : List ℕ) (r r' : ℕ)
-        (f : array' ≡ position_held base w s (block + 1) (2 * p) array)
-        (g : marks' ≡ position_marks base w s (block + 1) (2 * p) array marks)
-        (n : r ≡ position_missed base w s (block + 1) array)
-        (f' : array'' ≡ position_held base w s' (load_of word) (2 * p + 1) array')
-        (g' : marks'' ≡ position_marks base w s' (load_of word) (2 * p + 1) array' marks')
-        (n' : r' ≡ position_missed base w s' (load_of word) array' + only_if (eqb (kind_of word) 2) 1)
-        (so_far : ScannedTo t w base array marks p) where
+        (f : array' ≡ position_held base code.ways s (block + 1) (2 * p) array)
+        (g : marks' ≡ position_marks base code.ways s (block + 1) (2 * p) array marks)
+        (n : r ≡ position_missed base code.ways s (block + 1) array)
+        (f' : array'' ≡ position_held base datum.ways s' (load_of word) (2 * p + 1) array')
+        (g' : marks'' ≡ position_marks base datum.ways s' (load_of word) (2 * p + 1) array' marks')
+        (n' : r' ≡ position_missed base datum.ways s' (load_of word) array' + only_if (eqb (kind_of word) 2) 1)
+        (so_far : ScannedTo t (ways t.words) base array marks p) where
       abbrev At : List ℕ → List ℕ → ℕ → Type 0
       At = Scanned place w (load_at t) base all_sets
 
       fetched : At array' marks' (suc (2 * p)) × (r ≡ only_if (misses t w (2 * p)) 1)
       fetched =
-          let so = scan-position place w (load_at t) base all_sets (2 * p) s array marks (omega arith) (place_in-low code caches.code_placing block) so_far (block + 1) fetch-is (omega arith) fetch-own in
-          (rw (f, g) so.0, n ∙ so.1)
+          let so = scan-position place w (load_at t) base all_sets (2 * p) s array marks (omega arith) (place_in-low code block) so_far (block + 1) fetch-is (omega arith) fetch-own in
+          let held = f ∙ ap (λ (k : ℕ). position_held base k s (block + 1) (2 * p) array) caches.code_ways in
+          let marked = g ∙ ap (λ (k : ℕ). position_marks base k s (block + 1) (2 * p) array marks) caches.code_ways in
+          (rw (held, marked) so.0, n ∙ ap (λ (k : ℕ). position_missed base k s (block + 1) array) caches.code_ways ∙ so.1)
 
       accessed : At array'' marks'' (suc (suc (2 * p))) × (r' ≡ only_if (misses t w (suc (2 * p))) 1 + only_if (eqb (kind_of word) 2) 1)
       accessed =
           let next : 2 * p + 1 ≡ suc (2 * p) = add-one (2 * p) in
-          let so = scan-position place w (load_at t) base all_sets (suc (2 * p)) s' array' marks' (omega arith) (place_in-low datum caches.data_placing (block_of word)) fetched.0 (load_of word) read_is (read_small word) read-own in (
+          let so = scan-position place w (load_at t) base all_sets (suc (2 * p)) s' array' marks' (omega arith) (place_in-low datum (block_of word)) fetched.0 (load_of word) read_is (read_small word) read-own in (
             rw (
-              f' ∙ ap (λ (e : ℕ). position_held base w s' (load_of word) e array') next,
-              g' ∙ ap (λ (e : ℕ). position_marks base w s' (load_of word) e array' marks') next,
+              f' ∙ ap₂ (λ (k e : ℕ). position_held base k s' (load_of word) e array') caches.data_ways next,
+              g' ∙ ap₂ (λ (k e : ℕ). position_marks base k s' (load_of word) e array' marks') caches.data_ways next,
             ) so.0,
-            n' ∙ ap (λ (k : ℕ). k + only_if (eqb (kind_of word) 2) 1) so.1,
+            n' ∙ ap (λ (k : ℕ). position_missed base k s' (load_of word) array' + only_if (eqb (kind_of word) 2) 1) caches.data_ways
+                ∙ ap (λ (k : ℕ). k + only_if (eqb (kind_of word) 2) 1) so.1,
           )
 
       twice : suc (suc (2 * p)) ≡ 2 * (p + 1)
       twice = omega arith
 
-      pub turn-scan : ScannedTo t w base array'' marks'' (p + 1)
+      pub turn-scan : ScannedTo t (ways t.words) base array'' marks'' (p + 1)
       turn-scan = subst (At array'' marks'') twice accessed.0
 
-      pub turn-count : (k : ℕ) → k ≡ count_to (misses t w) (2 * p) + count_to (writes t) p → k + r + r' ≡ count_to (misses t w) (2 * (p + 1)) + count_to (writes t) (p + 1)
+      pub turn-count : (k : ℕ) → k ≡ count_to (misses t (ways t.words)) (2 * p) + count_to (writes t) p
+          → k + r + r' ≡ count_to (misses t (ways t.words)) (2 * (p + 1)) + count_to (writes t) (p + 1)
       turn-count k e =
           omega (
             arith,

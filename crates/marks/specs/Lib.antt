@@ -1,3 +1,2 @@
--- The buffers that a load works in, and the data access of an instruction.
-pub mod MarkRoom
+-- The data access of an instruction.
 pub mod Accesses

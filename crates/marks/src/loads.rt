@@ -2,58 +2,47 @@
 // misses.
 ghost use Rattle.std.specs.Prelude.{◌≡◌, ◌+◌, ◌≤◌, ◌<◌};
 ghost use Rattle.entries.specs.Marks.{position_held, position_marks, position_missed};
-ghost use Rattle.marks.specs.MarkRoom.{MarkRoom};
 
-use entries::touch;
-use folds::one_if;
+use entries::{Workspace, touch};
 
 // A load into set s. Where it hits, the position of the block's last load is marked as kept.
 pub fn mark_ways(
-    base: u64,
+    base: u32,
     ways: usize,
     s: usize,
     block: u32,
     e: usize,
-    held: &mut [u64],
-    marks: &mut [u32],
+    space: &mut Workspace,
 ) -> u32
-    requires { (MarkRoom base ways held.old marks.old) × (s < 512) × (e < 2048) × (block < 65536) }
-    ensures { (result ≡ position_missed base ways s (block + 1) held.old)
-        × (held.new ≡ position_held base ways s (block + 1) e held.old)
-        × (marks.new ≡ position_marks base ways s (block + 1) e held.old marks.old) × (result ≤ 1) }
+    requires { (ways ≤ 8) × (s < 512) × (e < 2048) × (block < 65536) }
+    ensures { (result ≡ position_missed base ways s (block + 1) space.old.held)
+        × (space.new.held ≡ position_held base ways s (block + 1) e space.old.held)
+        × (space.new.marks ≡ position_marks base ways s (block + 1) e space.old.held space.old.marks) × (result ≤ 1) }
 {
-    let x = base + ((block as u64) + 1);
-    let last = touch(held, s * ways, ways, base, x, e as u64);
-    if last == 0 {
-        marks[e] = 4 * (s as u32);
+    let x = (base as u64) + ((block as u64) + 1);
+    let Some(last) = touch(&mut space.held, s * ways, ways, base as u64, x, e as u64) else {
+        space.marks[e] = 4 * (s as u32);
         return 1;
-    }
-    marks[e] = 4 * (s as u32) + 2;
-    let i = (last as usize) - 1;
-    marks[i] = marks[i] | 1;
+    };
+    space.marks[e] = 4 * (s as u32) + 2;
+    let i = last as usize;
+    space.marks[i] |= 1;
     0
 }
 
 // The same for sets that hold one block, without a branch on whether the load hits: where it misses, the other position's mark is written as it was.
-pub fn mark_one(
-    base: u64,
-    s: usize,
-    block: u32,
-    e: usize,
-    held: &mut [u64],
-    marks: &mut [u32],
-) -> u32
-    requires { (MarkRoom base 1 held.old marks.old) × (s < 512) × (e < 2048) × (block < 65536) }
-    ensures { (result ≡ position_missed base 1 s (block + 1) held.old)
-        × (held.new ≡ position_held base 1 s (block + 1) e held.old)
-        × (marks.new ≡ position_marks base 1 s (block + 1) e held.old marks.old) × (result ≤ 1) }
+pub fn mark_one(base: u32, s: usize, block: u32, e: usize, space: &mut Workspace) -> u32
+    requires { (s < 512) × (e < 2048) × (block < 65536) }
+    ensures { (result ≡ position_missed base 1 s (block + 1) space.old.held)
+        × (space.new.held ≡ position_held base 1 s (block + 1) e space.old.held)
+        × (space.new.marks ≡ position_marks base 1 s (block + 1) e space.old.held space.old.marks) × (result ≤ 1) }
 {
-    let x = base + ((block as u64) + 1);
-    let entry = held[s];
-    held[s] = x * 2048 + (e as u64);
-    let hit = one_if(entry / 2048 == x);
-    marks[e] = 4 * (s as u32) + 2 * hit;
+    let x = (base as u64) + ((block as u64) + 1);
+    let entry = space.held[s];
+    space.held[s] = x * 2048 + (e as u64);
+    let hit = u32::from(entry / 2048 == x);
+    space.marks[e] = 4 * (s as u32) + 2 * hit;
     let i = (entry % 2048) as usize;
-    marks[i] = marks[i] | hit;
+    space.marks[i] |= hit;
     1 - hit
 }

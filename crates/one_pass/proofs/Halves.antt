@@ -51,17 +51,13 @@ module _ (S : System) {n : ℕ} {old new : List ℕ} (tasks : n ≡ S.count) (ro
   front = take-before {n = n} made (omega arith) (omega arith)
 
   -- a next time, and a time before the pass
-  next-time : (i : ℕ) → i < n → get_or (pass S (take n old)) i 0 ≡ get_or new (n + i) 0
+  pub next-time : (i : ℕ) → i < n → get_or (pass S (take n old)) i 0 ≡ get_or new (n + i) 0
   next-time i h = get_d-pass S (take n old) i (rw (← tasks) h) ∙ sym (made.part i h)
 
-  time : (i : ℕ) → i < n → get_or (take n old) i 0 ≡ get_or new i 0
+  pub time : (i : ℕ) → i < n → get_or (take n old) i 0 ≡ get_or new i 0
   time i h = get_or-take n old i 0 h ∙ sym (made.before i h)
 
-  -- where the pass changed nothing, the halves agree
-  pub agree : pass S (take n old) ≡ take n old → (i : ℕ) → i < n → get_or new i 0 ≡ get_or new (n + i) 0
-  agree e i h = sym (time i h) ∙ ap (λ (R : List ℕ). get_or R i 0) (sym e) ∙ next-time i h
-
-  -- and where the halves agree, it changed nothing
+  -- where the halves agree, the pass changed nothing
   pub stands : ((i : ℕ) → i < n → get_or new i 0 ≡ get_or new (n + i) 0) → pass S (take n old) ≡ take n old
   stands all =
       let size : length (pass S (take n old)) ≡ n = length-pass S (take n old) ∙ sym tasks in

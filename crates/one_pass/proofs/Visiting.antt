@@ -56,7 +56,7 @@ visited-nothing n w = record { size = refl; times = refl; raises = λ k h. le_re
 
 -- ---- one visit, to task i
 
-module _ {b : List ℕ} {n : ℕ} {links on : List ℕ} {due : ℕ} {w : List ℕ} (ready : Visitable b n links on due w) where
+module _ {b : List ℕ} {n due : ℕ} {w : List ℕ} (ready : Visitable b n due w) where
   tasks : n ≡ (system b).count
   tasks = ready.startable.room.tasks
 
@@ -79,8 +79,8 @@ module _ {b : List ℕ} {n : ℕ} {links on : List ℕ} {due : ℕ} {w : List �
         subst (λ (R : List ℕ). Visited n R w w false) (sym (set-again (take n w) i (capped (system b) (take n w) i) (omega (arith, long)) (here ∙ e))) (visited-nothing n w)
 
     -- it is not due any more
-    pub visitable-done : {due' : ℕ} → n ≤ 64 → due' ≡ word_of (λ t. not (eqb t i) && bit due t) 64 → get_or w i 0 ≡ capped (system b) (take n w) i → Visitable b n links on due' w
-    visitable-done {due'} few made e = record { startable = ready.startable; prepared = ready.prepared; rises = ready.rises; linked = ready.linked; cores = ready.cores; quiet = quiet }
+    pub visitable-done : {due' : ℕ} → n ≤ 64 → due' ≡ word_of (λ t. not (eqb t i) && bit due t) 64 → get_or w i 0 ≡ capped (system b) (take n w) i → Visitable b n due' w
+    visitable-done {due'} few made e = record { startable = ready.startable; prepared = ready.prepared; rises = ready.rises; quiet = quiet }
       where
         quiet : Quiet b n due' w
         quiet j h clear =
@@ -137,37 +137,35 @@ module _ {b : List ℕ} {n : ℕ} {links on : List ℕ} {due : ℕ} {w : List �
           (subst (λ (p : ℕ). Stored (λ k. next) i 1 w (set w p next)) (add-zero i)
           (stored_next (λ k. next) i w {n = 0} (stored-none (λ k. next) i w) (omega (arith, room)) refl)) (omega arith)
 
-      visitable-moved : (due' : ℕ) → Joined b due i due' → Visitable b n links on due' new
+      visitable-moved : (due' : ℕ) → Joined b due i due' → Visitable b n due' new
       visitable-moved due' joined =
           record {
             startable = record { room = passable-kept ready.startable.room stored_one.size; capped = new-capped };
             prepared = new-prepared;
             rises = λ k h. rw front ((visit-rising (system b) (system-mono b) (take n w) rising i).rises k (rw (← tasks) h));
-            linked = ready.linked;
-            cores = ready.cores;
             quiet = new-quiet due' joined;
           }
 
       -- it is stored, and the tasks that read it are due
       pub visited-one : {stored : List ℕ} (due' : ℕ) → stored ≡ set w i next → Joined b due i due'
-          → Visited n (visit (system b) (take n w) i) w stored true × Visitable b n links on due' stored
+          → Visited n (visit (system b) (take n w) i) w stored true × Visitable b n due' stored
       visited-one due' e joined =
-          subst (λ (v : List ℕ). Visited n (visit (system b) (take n w) i) w v true × Visitable b n links on due' v) (sym e) (stored_one, visitable-moved due' joined)
+          subst (λ (v : List ℕ). Visited n (visit (system b) (take n w) i) w v true × Visitable b n due' v) (sym e) (stored_one, visitable-moved due' joined)
 
 -- ---- visit after visit
 
 -- what moved, by the scratch in the middle
-pub visited-both : {n : ℕ} {R R' w w' w'' : List ℕ} {changed more : Bool} → Visited n R w w' changed → Visited n R' w' w'' more → Visited n R' w w'' (more || changed)
+pub visited-both : {n : ℕ} {R R' w w' w'' : List ℕ} {changed more : Bool} → Visited n R w w' changed → Visited n R' w' w'' more → Visited n R' w w'' (changed || more)
 visited-both {n} {w = w} {w'} {w''} {changed} {more} first second =
     record {
       size = second.size ∙ first.size;
       times = second.times;
       raises = λ k h. le_trans (first.raises k h) (second.raises k h);
-      still = λ e. let none = neither more changed e in second.still none.0 ∙ first.still none.1;
-      higher = λ e. higher more changed refl refl e;
+      still = λ e. let none = neither changed more e in second.still none.1 ∙ first.still none.0;
+      higher = λ e. higher changed more refl refl e;
     }
   where
-    higher : (s t : Bool) → more ≡ s → changed ≡ t → (s || t) ≡ true → (i : ℕ) × (i < n) × (get_or (take n w) i 0 < get_or (take n w'') i 0)
-    higher true t p q e = let found = second.higher p in let l = found.2 in (found.0, found.1, omega (arith, first.raises found.0 found.1))
-    higher false true p q e = let found = first.higher q in let l = found.2 in (found.0, found.1, omega (arith, second.raises found.0 found.1))
+    higher : (s t : Bool) → changed ≡ s → more ≡ t → (s || t) ≡ true → (i : ℕ) × (i < n) × (get_or (take n w) i 0 < get_or (take n w'') i 0)
+    higher true t p q e = let found = first.higher p in let l = found.2 in (found.0, found.1, omega (arith, second.raises found.0 found.1))
+    higher false true p q e = let found = second.higher q in let l = found.2 in (found.0, found.1, omega (arith, first.raises found.0 found.1))
     higher false false p q e = absurd (false≢true e)

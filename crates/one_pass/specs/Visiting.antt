@@ -1,21 +1,17 @@
 -- For the code: what a visit, and a pass of visits, starts from and leaves.
 -- Assumes nothing.
 use Rattle.std.specs.Prelude.{ℕ, ◌<◌, Bool, true, false, List, ◌≡◌, length, get_or, take}
-use Rattle.board.specs.Layout.{tasks}
-use Rattle.sums.specs.Links.{Linked}
 use Rattle.passes.specs.Passes.{Below, pass}
 use Rattle.scratch.specs.Scratch.{Prepared}
 use Rattle.one_pass.specs.System.{system}
 use Rattle.one_pass.specs.Startable.{Startable}
-use Rattle.one_pass.specs.DueTasks.{OnCores, Quiet}
+use Rattle.one_pass.specs.DueTasks.{Quiet}
 
--- a prepared scratch with times, in its first n words, that a pass does not lower; the links and the tasks of the cores; and the tasks that are due
-pub record Visitable (b : List ℕ) (n : ℕ) (links on : List ℕ) (due : ℕ) (w : List ℕ) : Type 0 where
+-- a prepared scratch with times, in its first n words, that a pass does not lower; and the tasks that are due
+pub record Visitable (b : List ℕ) (n due : ℕ) (w : List ℕ) : Type 0 where
   pub startable : Startable b n w
   pub prepared : Prepared b n w
   pub rises : Below n (take n w) (pass (system b) (take n w))
-  pub linked : Linked b links
-  pub cores : OnCores b (tasks b) on
   pub quiet : Quiet b n due w
 
 -- the first n words of the scratch, which was w and is w', are the times R; none is lower than it was, and one is higher exactly where a change is told

@@ -1,3 +1,2 @@
 -- The laws of the page of how a time is made up.
 pub mod Names
-pub mod Pages

@@ -1,14 +1,17 @@
 -- The page of how a time is made up: a line for each of the six parts with its name, then what they add up to, the deadline, the largest time
 -- that is not late, and the reason.
 -- Assumes nothing.
-use Rattle.std.specs.Prelude.{ℕ, zero, suc, ◌-◌, List, [], ◌∷◌, ◌++◌, length, get_or}
+use Rattle.std.specs.Prelude.{ℕ, zero, suc, ◌-◌, List, [], ◌∷◌, ◌++◌, length, get_or, Result, Ok, Err}
 use Rattle.folds.specs.Folds.{join_to}
 use Rattle.board.specs.Layout.{deadline, pass_limit}
 use Rattle.sums.specs.Sums.{bound}
 use Rattle.sums.specs.SixParts.{total}
 use Rattle.interference.specs.Parts.{listed}
+use Rattle.refusals.specs.Refusals.{row_number}
+use Rattle.refusals.specs.declared.Refusal.{Refusal}
 use Rattle.answers.specs.declared.MadeUp.{MadeUp}
-use Rattle.answers.specs.declared.MadeUp.TheVariants.{Parts, Spent, Refused}
+use Rattle.answers.specs.declared.MadeUp.TheVariants.{Parts, Spent}
+use Rattle.answers.specs.PartNumbers.{part_number}
 use Rattle.text.specs.Text.{decimal, line, spent_text, sum_text, deadline_text, largest_time_text, reason_text}
 use Rattle.answer_page.specs.AnswerPage.{bad_line}
 
@@ -33,7 +36,7 @@ last_lines b i parts reason =
     ++ (line (largest_time_text ∷ decimal (bound b i) ∷ []) ++ line (reason_text ∷ decimal reason ∷ part_name (reason - 1) ∷ [])))
 
 -- the page of an answer r, of task i; spent and refused as the page of Analyse has them
-unfoldable pub made_up_page : List ℕ → ℕ → MadeUp → List ℕ
-made_up_page b i (Parts parts reason) = join_to (part_line (listed parts)) (length (listed parts)) ++ last_lines b i (listed parts) reason
-made_up_page b i Spent = line (spent_text ∷ decimal (pass_limit b) ∷ [])
-made_up_page b i (Refused number place) = bad_line number place
+unfoldable pub made_up_page : List ℕ → ℕ → Result MadeUp Refusal → List ℕ
+made_up_page b i (Ok (Parts parts reason)) = join_to (part_line (listed parts)) (length (listed parts)) ++ last_lines b i (listed parts) (part_number reason)
+made_up_page b i (Ok Spent) = line (spent_text ∷ decimal (pass_limit b) ∷ [])
+made_up_page b i (Err refusal) = bad_line (row_number refusal.row) refusal.place

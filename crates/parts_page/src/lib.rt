@@ -1,116 +1,115 @@
-// The page of how a time is made up, put into a lent buffer.
+// The page of how a time is made up.
 #![tactic(auto)]
 
-ghost use Rattle.std.specs.Prelude.{[], ◌∷◌, ◌++◌, ◌+◌, ◌-◌, ◌≤◌, length};
+ghost use Rattle.std.specs.Prelude.{◌≡◌, [], ◌∷◌, ◌++◌, ◌+◌, ◌-◌, ◌≤◌, length, Ok};
 ghost use Rattle.folds.specs.Folds.{join_to};
 ghost use Rattle.interference.specs.Parts.{listed};
+ghost use Rattle.answers.specs.PartNumbers.{part_number};
 ghost use Rattle.answers.specs.declared.MadeUp.TheVariants.{Parts};
 ghost use Rattle.text.specs.Text.{decimal, line, reason_text};
-ghost use Rattle.text.specs.Buffer.{Put};
 ghost use Rattle.parts_page.specs.PartsPage.{part_name, part_line, last_lines, made_up_page};
 ghost use Rattle.parts_page.specs.Printable.{Printable};
 
-use answers::MadeUp;
-use board::fields;
-use folds::{index, wide};
-use interference::{SumParts, add_parts, six};
-use text::lines::{number_line, pair_line};
-use text::{put_field, put_number, put_word};
+use answer_page::refusal_line;
+use answers::{MadeUp, PARTS, Part};
+use board::Board;
+use interference::SumParts;
+use refusals::Refusal;
+use text::lines::number_line;
+use text::{Page, put_field, put_number};
 
-// Puts the name of part k and the byte that ends it: at most 16 bytes.
-fn put_name(out: &mut [u8], at: usize, k: usize, end: u8) -> usize
-    requires { at + 16 ≤ length out.old }
-    ensures { Put out.old at (part_name k ++ (end ∷ [])) out.new result × (result ≤ at + 16) }
+// The name of a part: at most 15 bytes.
+#[tactic(auto, unfolding(crate::specs::PartsPage::part_name))]
+fn name(part: Part) -> &'static [u8]
+    ensures { (result.now ≡ part_name (part_number part - 1)) × (length result.now ≤ 15) }
 {
-    match k {
-        0 => put_field(out, at, b"own-work", end),
-        1 => put_field(out, at, b"higher-work", end),
-        2 => put_field(out, at, b"core-accesses", end),
-        3 => put_field(out, at, b"other-accesses", end),
-        4 => put_field(out, at, b"blocking-access", end),
-        _ => put_field(out, at, b"refreshes", end),
+    match part {
+        Part::OwnWork => b"own-work",
+        Part::HigherWork => b"higher-work",
+        Part::CoreAccesses => b"core-accesses",
+        Part::OtherAccesses => b"other-accesses",
+        Part::BlockingAccess => b"blocking-access",
+        Part::Refreshes => b"refreshes",
     }
 }
 
-// Puts the line of part k, which is so many cycles: at most 37 bytes.
-fn part_line(out: &mut [u8], at: usize, k: usize, cycles: u64) -> usize
-    requires { at + 37 ≤ length out.old }
-    ensures { Put out.old at (line (part_name k ∷ decimal cycles ∷ [])) out.new result × (result ≤ at + 37) }
+// Puts the lines of the six parts: at most 37 bytes each.
+#[tactic(auto, using(text::proofs::Fields::joined, crate::proofs::Names::part_at))]
+fn part_lines<const N: usize>(page: &mut Page<N>, parts: SumParts)
+    requires { length page.old.items + 222 ≤ N }
+    ensures put { page.new.items ≡ page.old.items ++ join_to (part_line (listed parts)) 6 }
+    ensures most { length page.new.items ≤ length page.old.items + 222 }
 {
-    let next = put_name(out, at, k, b' ');
-    put_number(out, next, cycles, b'\n')
-}
-
-// Puts the lines of the six parts at the start: at most 222 bytes.
-fn part_lines(out: &mut [u8], parts: SumParts) -> usize
-    requires { 222 ≤ length out.old }
-    ensures { Put out.old 0 (join_to (part_line (listed parts)) 6) out.new result × (result ≤ 222) }
-{
-    let all = six(parts);
-    let mut next: usize = 0;
-    let mut k: usize = 0;
-    while k < 6 {
-        next = part_line(out, next, k, all[k]);
-        k += 1;
+    for (k, cycles) in parts.six().iter().enumerate() {
+        number_line(page, name(PARTS[k]), *cycles);
     }
-    next
 }
 
-// Puts the number of the reason and its name: at most 34 bytes.
-fn reason_line(out: &mut [u8], at: usize, reason: u32) -> usize
-    requires { (1 ≤ reason) × (at + 34 ≤ length out.old) }
-    ensures { Put out.old at (line (reason_text ∷ decimal reason ∷ part_name (reason - 1) ∷ [])) out.new result }
+// Puts the number of the reason and its name: at most 44 bytes.
+#[tactic(auto, using(text::proofs::Fields::put_more, text::proofs::Fields::put_last))]
+fn reason_line<const N: usize>(page: &mut Page<N>, reason: Part)
+    requires { length page.old.items + 44 ≤ N }
+    ensures { page.new.items ≡ page.old.items ++ line (reason_text ∷ decimal (part_number reason) ∷ part_name (part_number reason - 1) ∷ []) }
 {
-    let first = put_field(out, at, b"reason", b' ');
-    let next = put_word(out, first, reason, b' ');
-    put_name(out, next, index(reason) - 1, b'\n')
+    put_field(page, b"reason", b' ');
+    put_number(page, u64::from(reason.number()), b' ');
+    put_field(page, name(reason), b'\n');
 }
 
-// Puts the lines after the parts, of a task by its number from 1: their sum, the deadline, the largest time that is not late and the reason, at most 123 bytes.
-fn last_lines(
-    out: &mut [u8],
-    at: usize,
-    board: &[u32],
+// Puts the lines after the parts, of a task by its number from 1: their sum, the deadline, the largest time that is not late and the reason, at most 133 bytes.
+#[tactic(auto, using(text::proofs::Fields::put_then))]
+fn last_lines<const N: usize>(
+    page: &mut Page<N>,
+    board: &Board,
     task: usize,
     parts: SumParts,
-    reason: u32,
-) -> usize
-    requires { Printable board.now task (Parts parts reason) × (at + 123 ≤ length out.old) }
-    ensures { Put out.old at (last_lines board.now (task - 1) (listed parts) reason) out.new result }
+    reason: Part,
+)
+    requires { Printable board.now task (Ok (Parts parts reason)) × (length page.old.items + 133 ≤ N) }
+    ensures { page.new.items ≡ page.old.items ++ last_lines board.now (task - 1) (listed parts) (part_number reason) }
 {
-    let first = number_line(out, at, b"sum", add_parts(parts));
-    let second = number_line(
-        out,
-        first,
-        b"deadline",
-        wide(fields::deadline(board, task - 1)),
-    );
-    let next = number_line(
-        out,
-        second,
-        b"largest-time",
-        wide(board::fields::bound(board, task - 1)),
-    );
-    reason_line(out, next, reason)
+    number_line(page, b"sum", parts.add_parts());
+    number_line(page, b"deadline", u64::from(board.deadline(task - 1)));
+    number_line(page, b"largest-time", u64::from(board.bound(task - 1)));
+    reason_line(page, reason);
 }
 
 // Puts the page of the parts of a task.
-fn parts_page(out: &mut [u8], board: &[u32], task: usize, parts: SumParts, reason: u32) -> usize
-    requires { Printable board.now task (Parts parts reason) × (512 ≤ length out.old) }
-    ensures { Put out.old 0 (made_up_page board.now (task - 1) (Parts parts reason)) out.new result }
+#[tactic(auto, using(text::proofs::Fields::put_then), unfolding(crate::specs::PartsPage::made_up_page))]
+fn parts_page<const N: usize>(
+    page: &mut Page<N>,
+    board: &Board,
+    task: usize,
+    parts: SumParts,
+    reason: Part,
+)
+    requires { Printable board.now task (Ok (Parts parts reason)) × (length page.old.items + 512 ≤ N) }
+    ensures { page.new.items ≡ page.old.items ++ made_up_page board.now (task - 1) (Ok (Parts parts reason)) }
 {
-    let next = part_lines(out, parts);
-    last_lines(out, next, board, task, parts, reason)
+    part_lines(page, parts);
+    last_lines(page, board, task, parts, reason);
 }
 
-// Puts the page of how the time of a task is made up at the start of the buffer.
-pub fn made_up_page(out: &mut [u8], board: &[u32], task: usize, made: MadeUp) -> usize
-    requires { Printable board.now task made × (512 ≤ length out.old) }
-    ensures { Put out.old 0 (made_up_page board.now (task - 1) made) out.new result }
+// Puts the page of how the time of a task is made up.
+#[tactic(auto, unfolding(crate::specs::PartsPage::made_up_page))]
+pub fn made_up_page<const N: usize>(
+    page: &mut Page<N>,
+    board: &[u32],
+    task: usize,
+    made: Result<MadeUp, Refusal>,
+)
+    requires { Printable board.now task made × (length page.old.items + 512 ≤ N) }
+    ensures { page.new.items ≡ page.old.items ++ made_up_page board.now (task - 1) made }
 {
     match made {
-        MadeUp::Parts(parts, reason) => parts_page(out, board, task, parts, reason),
-        MadeUp::Spent => number_line(out, 0, b"spent", wide(fields::pass_limit(board))),
-        MadeUp::Refused(number, place) => pair_line(out, 0, b"bad", number as u64, place as u64),
+        Ok(MadeUp::Parts(parts, reason)) => parts_page(
+            page,
+            &Board::of(board),
+            task,
+            parts,
+            reason,
+        ),
+        Ok(MadeUp::Spent) => number_line(page, b"spent", u64::from(Board::of(board).pass_limit())),
+        Err(refusal) => refusal_line(page, refusal),
     }
 }

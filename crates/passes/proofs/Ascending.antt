@@ -1,4 +1,4 @@
--- What a step from times to times has to meet for its passes to settle at the least choice, and that a pass over all times together does.
+-- A pass over all times together is an ascending step, and what follows of such steps.
 -- Assumes nothing.
 use mathlib.Core.List.{List}
 use mathlib.Core.Path.{◌≡◌, sym, ap, ◌∙◌}
@@ -10,24 +10,7 @@ use lib.Seq.{ext_get_or}
 use Rattle.folds.specs.Folds.{tabulate}
 use Rattle.folds.proofs.Lists.{length-tabulate, get_d_tabulate}
 use Rattle.passes.specs.Passes.{System, capped, pass, Below, Capped, Monotone, Choice}
-
--- times, one a task, that a pass does not lower
-pub record Rising (S : System) (R : List ℕ) : Type 0 where
-  pub size : length R ≡ S.count
-  pub rises : Below S.count R (pass S R)
-
--- times that a pass does not raise
-abbrev pub Closed : System → List ℕ → Type 0
-Closed S C = Below S.count (pass S C) C
-
--- what a step has to meet, in whatever order it visits the tasks: from times that a pass does not lower
-pub record Ascending (S : System) (step : List ℕ → List ℕ) : Type 0 where
-  -- it leads to such times again
-  pub rising : (R : List ℕ) → Rising S R → Rising S (step R)
-  -- reaches at least what a pass would
-  pub reaches : (R : List ℕ) → Rising S R → Below S.count (pass S R) (step R)
-  -- and stays below all times above them that a pass does not raise
-  pub stays : (R C : List ℕ) → Rising S R → Closed S C → Below S.count R C → Below S.count (step R) C
+pub use Rattle.passes.specs.Ascending.{Rising, Closed, Ascending}
 
 -- ---- a pass
 

@@ -1,7 +1,6 @@
 -- The range of a word, from its index, and a part's test, from the part.
 -- Assumes nothing.
-use Prim.Native.Nat.{ℕ, zero, suc, ◌%◌, ◌≤◌, zero-le}
-use native.Mathlib.Omega.{arith}
+use Prim.Native.Nat.{ℕ, ◌%◌, ◌≤◌}
 use mathlib.Core.Bool.{Bool}
 use mathlib.Core.Path.{◌≡◌, ap, sym}
 use mathlib.Core.List.{List}
@@ -28,19 +27,6 @@ header_spare b i h = ap (λ (f : ℕ → Bool). f (word b i)) (sym (get_or-eq_de
 pub task_row : (b : List ℕ) (i : ℕ) {k : ℕ} → i % 5 ≡ k → get_or (task_ranges b i) k is_zero (word b i) ≡ task_ok b i
 unfolding task_ok
 task_row b i e = entry (task_ranges b i) (word b i) e
-
--- ---- what the last arm of a `match` knows, after arms for 0 .. k - 1: the number is at least k
-
-abbrev pub Avoids : ℕ → ℕ → Type 0
-Avoids i zero = Unit {0}
-Avoids i (suc k) = Avoids i k × (i ≡ k → ⊥)
-
-past : {i k : ℕ} → k ≤ i → (i ≡ k → ⊥) → suc k ≤ i
-past h n = omega arith
-
-pub avoids : (i k : ℕ) → Avoids i k → k ≤ i
-avoids i zero h = zero-le
-avoids i (suc k) h = past (avoids i k h.0) h.1
 
 -- ---- the test of a part
 

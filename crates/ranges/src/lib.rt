@@ -10,7 +10,7 @@ ghost use Rattle.ranges.specs.Parts.{word_ok};
 use board::{FIRST_DATA_BLOCK, LONGEST, MOST_PUT_OFF, MOST_REFRESH_ROWS, MOST_SETS, work};
 
 // The parts of a board whose words are tested, in their order.
-#[derive(Clone, Copy)]
+#[derive(Clone, Copy, Debug, PartialEq, Eq)]
 pub enum Part {
     Header,
     Tasks,
@@ -19,7 +19,7 @@ pub enum Part {
     Works,
 }
 
-// Whether x is in low .. high.
+// Whether x is in low .. high. Both tests are made, since `contains` of a range has a branch, of which there is none here for the reason that `work_ok` gives.
 pub fn within(low: u32, high: u32, x: u32) -> bool
     ensures { result ≡ Ranges·within low high x }
 {
@@ -49,13 +49,14 @@ fn ways_if(cached: bool, x: u32) -> bool
     ensures { result ≡ test_if cached is_ways x }
 {
     if cached {
-        (x == 0) | (x == 1) | (x == 2) | (x == 4) | (x == 8)
+        matches!(x, 0 | 1 | 2 | 4 | 8)
     } else {
         x == 0
     }
 }
 
-// Words 17 and above are spare.
+// Words 17 and above are spare. Memory, bus and refresh are numbers here: a board that has not passed may have any.
+#[tactic(auto, using(crate::proofs::Rows::header_spare), unfolding(crate::specs::Ranges::header_ranges, crate::specs::Ranges::header_ok))]
 fn header_ok(board: &[u32], i: usize) -> bool
     requires { (20 ≤ length board.now) × (i < length board.now) }
     ensures { result ≡ header_ok board.now i }
@@ -90,6 +91,7 @@ fn header_ok(board: &[u32], i: usize) -> bool
 }
 
 // The tasks start at word 20, so word i of the board is word i mod 5 of its task: core, T, D, trace count, J.
+#[tactic(auto, unfolding(crate::specs::Ranges::task_ranges, crate::specs::Ranges::task_ok))]
 fn task_ok(board: &[u32], i: usize) -> bool
     requires { (20 ≤ length board.now) × (i < length board.now) }
     ensures { result ≡ task_ok board.now i }
@@ -118,7 +120,8 @@ fn work_ok(board: &[u32], i: usize) -> bool
     executes | moves
 }
 
-// Whether word i of the board is in its range, as a word of that part.
+// Whether word i of the board is in its range, as a word of that part. It is put in line, so that a loop over one part has that part's test alone.
+#[inline(always)]
 pub fn word_ok(board: &[u32], part: Part, i: usize) -> bool
     requires { (20 ≤ length board.now) × (i < length board.now) }
     ensures { result ≡ word_ok part board.now i }

@@ -4,20 +4,23 @@ use Prim.Native.Nat.{ℕ, zero, suc, ◌+◌, ◌*◌, ◌-◌, ◌/◌, ◌%◌
 use mathlib.Core.Path.{◌≡◌, refl, sym, ap, subst, ◌∙◌}
 use mathlib.Core.Bool.{Bool, true, false, cond, ◌&&◌}
 use mathlib.Core.List.{List}
+use lib.ListN.{length}
 use native.Mathlib.Nat.{le_of_eq}
 use native.Mathlib.Omega.{arith}
 use borrow.Author.Tests.{le-leb, lt-ltb, eq-eqb, eqb-false, eqb-true, leb-true, leb-false}
 use lib.Dec.{leb, eqb}
+use Rattle.std.specs.Prelude.{Ok}
 use Rattle.board.specs.Layout as at
 use Rattle.board.specs.Layout.{word, kind_of, block_of}
 use Rattle.board.specs.Sound.{Between, Sound}
 use Rattle.ranges.specs.Ranges.{within, test_if, range_if, sets_or_held, header_ranges, header_ok, task_ranges, task_ok, length_ok, fetch_ok, work_ok}
 use Rattle.ranges.proofs.Rows.{header_spare, task_row}
 use Rattle.refusals.specs.Refusals.{first_bad, refuse_first, refusal_of}
-use Rattle.refusals.specs.declared.Verdict.TheVariants.{Passed}
+use Rattle.refusals.specs.declared.Row.{Row}
+use Rattle.refusals.specs.declared.Row.TheVariants.{BoardSize, HeaderWord, BoardLength, TaskWord, TraceSum, TraceLength, LengthSum, FetchedBlock, WorkWord}
 use Rattle.refusals.proofs.Searches.{first_bad-pass, first_bad-none}
 use Rattle.refusals.proofs.Sound.{WorkOk}
-use Rattle.refusals.proofs.Verdicts.{refuse_unless-true, refuse_first-none, row1-passed, row2-passed, row3-passed}
+use Rattle.refusals.proofs.Verdicts.{refuse_unless-true, refuse_first-none}
 
 -- ---- from facts to tests
 
@@ -50,10 +53,10 @@ work_ok-is w k x d = go (eqb (kind_of w) 0) refl
     go false e = rw (le-leb (kind_of w) 2 k, le-leb at.first_data_block _ (d (one-or-more (kind_of w) (eqb-false _ 0 e))))
 
 -- a part of `count` words from `from` on, each of which passes by its place in it
-refuse_first-is : (number : ℕ) (test : ℕ → Bool) (from count : ℕ) → ((p : ℕ) → p < count → test (from + p) ≡ true)
-    → refuse_first number test from (from + count) ≡ Passed
-refuse_first-is number test from count all =
-    refuse_first-none number test from (from + count)
+refuse_first-is : (row : Row) (test : ℕ → Bool) (from count : ℕ) → ((p : ℕ) → p < count → test (from + p) ≡ true)
+    → refuse_first row test from (from + count) ≡ Ok tt
+refuse_first-is row test from count all =
+    refuse_first-none row test from (from + count)
     (le_of_eq (sym (first_bad-none test from (from + count) (omega arith) (λ i l u.
     let there : from + (i - from) ≡ i = omega arith in
     subst (λ (j : ℕ). test j ≡ true) there (all (i - from) (omega arith))))))
@@ -113,17 +116,17 @@ module _ (b : List ℕ) (s : Sound b) where
   unfolding work_ok
   work p l = work_ok-is (word b (at.works_at b + p)) (s.kind p l) (s.execute p l) (s.data_block p l)
 
-  pub passes : refusal_of b ≡ Passed
+  pub passes : refusal_of b ≡ Ok tt
   unfolding refusal_of
   passes =
       rw (
-        row1-passed b (omega arith) s.small,
-        row2-passed b (le_of_eq (sym header)),
-        row3-passed b s.words,
-        refuse_first-is 4 (task_ok b) 20 (5 * at.tasks b) task-word,
-        refuse_unless-true 5 {test = eqb (at.first_trace b (at.tasks b)) (at.traces b)} 20 (eq-eqb _ _ s.trace_sum),
-        refuse_first-is 6 (length_ok b) (at.lengths_at b) (at.traces b) (λ t l. within-is 1 1024 _ (s.trace_length t l)),
-        refuse_unless-true 7 {test = eqb (at.first_instruction b (at.traces b)) (at.instructions b)} (at.lengths_at b) (eq-eqb _ _ s.length_sum),
-        refuse_first-is 8 (fetch_ok b) (at.fetches_at b) (at.instructions b) (λ p l. lt-ltb _ at.first_data_block (s.fetch p l)),
-        refuse_first-is 9 (work_ok b) (at.works_at b) (at.instructions b) work,
+        refuse_unless-true BoardSize (length b) (within-is 20 at.most_words (length b) (omega arith, s.small)),
+        refuse_first-none HeaderWord (header_ok b) 0 20 (le_of_eq (sym header)),
+        refuse_unless-true BoardLength (at.board_words b) (eq-eqb _ _ s.words),
+        refuse_first-is TaskWord (task_ok b) 20 (5 * at.tasks b) task-word,
+        refuse_unless-true TraceSum {test = eqb (at.first_trace b (at.tasks b)) (at.traces b)} 20 (eq-eqb _ _ s.trace_sum),
+        refuse_first-is TraceLength (length_ok b) (at.lengths_at b) (at.traces b) (λ t l. within-is 1 1024 _ (s.trace_length t l)),
+        refuse_unless-true LengthSum {test = eqb (at.first_instruction b (at.traces b)) (at.instructions b)} (at.lengths_at b) (eq-eqb _ _ s.length_sum),
+        refuse_first-is FetchedBlock (fetch_ok b) (at.fetches_at b) (at.instructions b) (λ p l. lt-ltb _ at.first_data_block (s.fetch p l)),
+        refuse_first-is WorkWord (work_ok b) (at.works_at b) (at.instructions b) work,
       )

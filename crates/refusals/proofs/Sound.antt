@@ -8,15 +8,16 @@ use native.Mathlib.Omega.{arith}
 use borrow.Author.Tests.{leb-true, ltb-true, eqb-true, eqb-false, eq-eqb, ne_eqb, le-leb, lt-leb}
 use lib.Dec.{leb, eqb}
 use lib.ListN.{length, get_or}
+use Rattle.std.specs.Prelude.{Ok}
 use Rattle.folds.proofs.Numbers.{and_both}
 use Rattle.board.specs.Layout as at
 use Rattle.board.specs.Layout.{word, board_words, kind_of, block_of}
 use Rattle.board.specs.Sound.{Between, Sound}
 use Rattle.ranges.specs.Ranges.{within, is_zero, test_if, range_if, sets_or_held, header_ranges, header_ok, task_ranges, task_ok, length_ok, fetch_ok, work_ok}
 use Rattle.ranges.proofs.Rows.{header_spare, task_row}
-use Rattle.refusals.specs.Refusals.{refuse_unless, first_bad, refuse_first, ◌or_else◌, refusal_of}
-use Rattle.refusals.specs.declared.Verdict.{Verdict}
-use Rattle.refusals.specs.declared.Verdict.TheVariants.{Passed}
+use Rattle.refusals.specs.Refusals.{Verdict, refuse_unless, first_bad, refuse_first, ◌or_else◌, refusal_of}
+use Rattle.refusals.specs.declared.Row.{Row}
+use Rattle.refusals.specs.declared.Row.TheVariants.{BoardSize, HeaderWord, BoardLength, TaskWord, TraceSum, TraceLength, LengthSum, FetchedBlock, WorkWord}
 use Rattle.refusals.proofs.Searches.{first_bad-all}
 use Rattle.refusals.proofs.Verdicts.{or_else-passed, refuse_unless-passed}
 
@@ -69,14 +70,14 @@ work-true w e = go (eqb (kind_of w) 0) refl e
         (leb-true _ 2 both.0, (λ h. absurd (eqb-false _ 0 k h)), λ _. leb-true at.first_data_block _ both.1)
 
 -- from rows that pass to tests
-pub refuse_first-passed : (number : ℕ) (test : ℕ → Bool) (from end : ℕ) → refuse_first number test from end ≡ Passed
+pub refuse_first-passed : (row : Row) (test : ℕ → Bool) (from end : ℕ) → refuse_first row test from end ≡ Ok tt
     → (i : ℕ) → from ≤ i → i < end → test i ≡ true
 unfolding refuse_first
-refuse_first-passed number test from end e i l u =
-    first_bad-all test from end (leb-true end (first_bad test from end) (refuse_unless-passed number _ _ e)) i l u
+refuse_first-passed row test from end e i l u =
+    first_bad-all test from end (leb-true end (first_bad test from end) (refuse_unless-passed row _ _ e)) i l u
 
-nine : (r1 r2 r3 r4 r5 r6 r7 r8 r9 : Verdict) → (r1 or_else r2 or_else r3 or_else r4 or_else r5 or_else r6 or_else r7 or_else r8 or_else r9) ≡ Passed
-    → (r1 ≡ Passed) × (r2 ≡ Passed) × (r3 ≡ Passed) × (r4 ≡ Passed) × (r5 ≡ Passed) × (r6 ≡ Passed) × (r7 ≡ Passed) × (r8 ≡ Passed) × (r9 ≡ Passed)
+nine : (r1 r2 r3 r4 r5 r6 r7 r8 r9 : Verdict) → (r1 or_else r2 or_else r3 or_else r4 or_else r5 or_else r6 or_else r7 or_else r8 or_else r9) ≡ Ok tt
+    → (r1 ≡ Ok tt) × (r2 ≡ Ok tt) × (r3 ≡ Ok tt) × (r4 ≡ Ok tt) × (r5 ≡ Ok tt) × (r6 ≡ Ok tt) × (r7 ≡ Ok tt) × (r8 ≡ Ok tt) × (r9 ≡ Ok tt)
 nine r1 r2 r3 r4 r5 r6 r7 r8 r9 e =
     let a = or_else-passed r1 (r2 or_else r3 or_else r4 or_else r5 or_else r6 or_else r7 or_else r8 or_else r9) e in
     let b = or_else-passed r2 (r3 or_else r4 or_else r5 or_else r6 or_else r7 or_else r8 or_else r9) a.1 in
@@ -88,46 +89,46 @@ nine r1 r2 r3 r4 r5 r6 r7 r8 r9 e =
     let i = or_else-passed r8 r9 h.1 in
     (a.0, b.0, c.0, d.0, f.0, g.0, h.0, i.0, i.1)
 
-module _ (b : List ℕ) (e : refusal_of b ≡ Passed) where
+module _ (b : List ℕ) (e : refusal_of b ≡ Ok tt) where
   rows :
-      (refuse_unless 1 (within 20 at.most_words (length b)) (length b) ≡ Passed)
-      × (refuse_first 2 (header_ok b) 0 20 ≡ Passed)
-      × (refuse_unless 3 (eqb (length b) (board_words b)) (board_words b) ≡ Passed)
-      × (refuse_first 4 (task_ok b) 20 (at.lengths_at b) ≡ Passed)
-      × (refuse_unless 5 (eqb (at.first_trace b (at.tasks b)) (at.traces b)) 20 ≡ Passed)
-      × (refuse_first 6 (length_ok b) (at.lengths_at b) (at.fetches_at b) ≡ Passed)
-      × (refuse_unless 7 (eqb (at.first_instruction b (at.traces b)) (at.instructions b)) (at.lengths_at b) ≡ Passed)
-      × (refuse_first 8 (fetch_ok b) (at.fetches_at b) (at.works_at b) ≡ Passed)
-      × (refuse_first 9 (work_ok b) (at.works_at b) (board_words b) ≡ Passed)
+      (refuse_unless BoardSize (within 20 at.most_words (length b)) (length b) ≡ Ok tt)
+      × (refuse_first HeaderWord (header_ok b) 0 20 ≡ Ok tt)
+      × (refuse_unless BoardLength (eqb (length b) (board_words b)) (board_words b) ≡ Ok tt)
+      × (refuse_first TaskWord (task_ok b) 20 (at.lengths_at b) ≡ Ok tt)
+      × (refuse_unless TraceSum (eqb (at.first_trace b (at.tasks b)) (at.traces b)) 20 ≡ Ok tt)
+      × (refuse_first TraceLength (length_ok b) (at.lengths_at b) (at.fetches_at b) ≡ Ok tt)
+      × (refuse_unless LengthSum (eqb (at.first_instruction b (at.traces b)) (at.instructions b)) (at.lengths_at b) ≡ Ok tt)
+      × (refuse_first FetchedBlock (fetch_ok b) (at.fetches_at b) (at.works_at b) ≡ Ok tt)
+      × (refuse_first WorkWord (work_ok b) (at.works_at b) (board_words b) ≡ Ok tt)
   unfolding refusal_of
   rows = nine _ _ _ _ _ _ _ _ _ e
 
   size : Between 20 at.most_words (length b)
-  size = within-true 20 at.most_words (length b) (refuse_unless-passed 1 _ _ rows.0)
+  size = within-true 20 at.most_words (length b) (refuse_unless-passed BoardSize _ _ rows.0)
 
   -- word i of the header passes its test
   header : (i : ℕ) → i < 20 → header_ok b i ≡ true
-  header i l = refuse_first-passed 2 (header_ok b) 0 20 rows.1 i (omega arith) l
+  header i l = refuse_first-passed HeaderWord (header_ok b) 0 20 rows.1 i (omega arith) l
 
   spare-word : (i : ℕ) → 17 ≤ i → i < 20 → word b i ≡ 0
   spare-word i l u = eqb-true _ 0 (header_spare b i l ∙ header i u)
 
   -- field f of task k passes its test
   task : (k f : ℕ) → k < at.tasks b → f < 5 → task_ok b (20 + 5 * k + f) ≡ true
-  task k f l u = refuse_first-passed 4 (task_ok b) 20 (at.lengths_at b) rows.3 (20 + 5 * k + f) (omega arith) (omega arith)
+  task k f l u = refuse_first-passed TaskWord (task_ok b) 20 (at.lengths_at b) rows.3 (20 + 5 * k + f) (omega arith) (omega arith)
 
   field : (k f : ℕ) → k < at.tasks b → f < 5 → get_or (task_ranges b (20 + 5 * k + f)) f is_zero (word b (20 + 5 * k + f)) ≡ true
   field k f l u = task_row b (20 + 5 * k + f) (omega arith) ∙ task k f l u
 
   work : (p : ℕ) → p < at.instructions b → WorkOk (word b (at.works_at b + p))
   unfolding work_ok
-  work p l = refuse_first-passed 9 (work_ok b) (at.works_at b) (board_words b) rows.8 (at.works_at b + p) (omega arith) (omega arith)
+  work p l = refuse_first-passed WorkWord (work_ok b) (at.works_at b) (board_words b) rows.8 (at.works_at b + p) (omega arith) (omega arith)
 
   pub sound : Sound b
   unfolding header_ok header_ranges task_ranges
   sound = record {
     small = size.1;
-    words = eqb-true _ _ (refuse_unless-passed 3 _ _ rows.2);
+    words = eqb-true _ _ (refuse_unless-passed BoardLength _ _ rows.2);
     cores = within-true 1 8 _ (header 0 (omega arith));
     tasks = within-true 1 at.most_tasks _ (header 1 (omega arith));
     traces = within-true 1 512 _ (header 2 (omega arith));
@@ -170,10 +171,10 @@ module _ (b : List ℕ) (e : refusal_of b ≡ Passed) where
     jitter = λ k l.
         let before : 20 + 5 * k + 4 - 2 ≡ 20 + 5 * k + 2 = omega arith in
         subst (λ (i : ℕ). at.jitter b k ≤ word b i) before (within-true 0 _ _ (field k 4 l (omega arith))).1;
-    trace_sum = eqb-true _ _ (refuse_unless-passed 5 _ _ rows.4);
-    trace_length = λ t l. within-true 1 1024 _ (refuse_first-passed 6 (length_ok b) (at.lengths_at b) (at.fetches_at b) rows.5 (at.lengths_at b + t) (omega arith) (omega arith));
-    length_sum = eqb-true _ _ (refuse_unless-passed 7 _ _ rows.6);
-    fetch = λ p l. ltb-true _ at.first_data_block (refuse_first-passed 8 (fetch_ok b) (at.fetches_at b) (at.works_at b) rows.7 (at.fetches_at b + p) (omega arith) (omega arith));
+    trace_sum = eqb-true _ _ (refuse_unless-passed TraceSum _ _ rows.4);
+    trace_length = λ t l. within-true 1 1024 _ (refuse_first-passed TraceLength (length_ok b) (at.lengths_at b) (at.fetches_at b) rows.5 (at.lengths_at b + t) (omega arith) (omega arith));
+    length_sum = eqb-true _ _ (refuse_unless-passed LengthSum _ _ rows.6);
+    fetch = λ p l. ltb-true _ at.first_data_block (refuse_first-passed FetchedBlock (fetch_ok b) (at.fetches_at b) (at.works_at b) rows.7 (at.fetches_at b + p) (omega arith) (omega arith));
     kind = λ p l. (work-true _ (work p l)).0;
     execute = λ p l. (work-true _ (work p l)).1;
     data_block = λ p l. (work-true _ (work p l)).2;

@@ -5,7 +5,8 @@ use mathlib.Core.List.{List}
 use mathlib.Core.Path.{◌≡◌, ap}
 use native.Mathlib.Omega.{arith}
 use Rattle.folds.specs.Folds.{sum_to}
-use Rattle.folds.proofs.Folds.{sum_to-cong}
+use Rattle.folds.proofs.Folds.{sum_to-none, sum_to-cong}
+use Rattle.folds.proofs.Loops.{sum_to-turn}
 use Rattle.board.specs.Layout.{word, lengths_at, first_trace, first_instruction}
 
 module _ (b : List ℕ) where
@@ -20,3 +21,6 @@ module _ (b : List ℕ) where
   pub sum-lengths : (from q : ℕ) → from ≡ lengths_at b → sum_to (λ k. word b (from + 1 * k)) q ≡ first_instruction b q
   unfolding first_instruction
   sum-lengths from q e = strided from 1 (λ k. lengths_at b + k) q (λ k. omega arith)
+
+-- what a loop needs that adds up words
+pub ruleset added = (sum_to-none, sum_to-turn)

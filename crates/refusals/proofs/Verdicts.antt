@@ -1,77 +1,70 @@
--- What it takes for rows to pass, and the answer of `refusal_of` where one of rows 1 to 3 refuses.
+-- What it takes for rows to pass, and what one says before others.
 -- Assumes nothing.
 use Prim.Native.Nat.{ℕ, ◌≤◌, ◌<◌}
 use mathlib.Core.Bool.{Bool, true, false, cond}
-use mathlib.Core.List.{List}
-use mathlib.Core.Path.{◌≡◌, refl, ap}
-use native.Mathlib.Omega.{arith}
-use borrow.Author.Tests.{le-leb, lt-leb, eq-eqb, ne_eqb}
-use lib.Dec.{eqb}
-use lib.ListN.{length}
-use Rattle.board.specs.Layout.{board_words, most_words}
-use Rattle.ranges.specs.Ranges.{within, header_ok}
-use Rattle.refusals.specs.Refusals.{refuse_unless, first_bad, refuse_first, ◌or_else◌, refusal_of}
-use Rattle.refusals.specs.declared.Verdict.{Verdict}
-use Rattle.refusals.specs.declared.Verdict.TheVariants.{Passed, Refused}
+use mathlib.Core.Path.{◌≡◌, refl, sym, ap, ◌∙◌}
+use borrow.Author.Tests.{le-leb, lt-leb}
+use lib.Dec.{leb}
+use Rattle.std.specs.Prelude.{Some, None, Ok, Err, IsErr, IsErrAnd}
+use Rattle.refusals.specs.Refusals.{Verdict, refused, refuse_unless, first_bad, refuse_first, ◌or_else◌}
+use Rattle.refusals.specs.Found.{bad_in, refuse_at}
+use Rattle.refusals.specs.declared.Row.{Row}
+use Rattle.refusals.specs.declared.Refusal.{Refusal}
 
 -- ---- one row
 
-pub or_else-passed : (u v : Verdict) → (u or_else v) ≡ Passed → (u ≡ Passed) × (v ≡ Passed)
-or_else-passed Passed v e = (refl, e)
-or_else-passed (Refused number place) v e = let z : ◌≡◌ {A = ℕ} 0 1 = cc in absurd (omega arith)
+pub or_else-passed : (u v : Verdict) → (u or_else v) ≡ Ok tt → (u ≡ Ok tt) × (v ≡ Ok tt)
+or_else-passed (Ok passed) v e = (refl, e)
+or_else-passed (Err refusal) v e = absurd (cc e)
 
-pub refuse_unless-passed : (number : ℕ) (test : Bool) (place : ℕ) → refuse_unless number test place ≡ Passed → test ≡ true
+pub refuse_unless-passed : (row : Row) (test : Bool) (place : ℕ) → refuse_unless row test place ≡ Ok tt → test ≡ true
 unfolding refuse_unless
-refuse_unless-passed number true place e = refl
-refuse_unless-passed number false place e = let z : ◌≡◌ {A = ℕ} 0 1 = cc in absurd (omega arith)
+refuse_unless-passed row true place e = refl
+refuse_unless-passed row false place e = absurd (cc e)
 
-module _ (number : ℕ) {test : Bool} (place : ℕ) where
-  pub refuse_unless-true : test ≡ true → refuse_unless number test place ≡ Passed
+-- a test whose row let pass
+pub tested : (row : Row) (test : Bool) (place : ℕ) → Ok tt ≡ refuse_unless row test place → test ≡ true
+tested row test place e = refuse_unless-passed row test place (sym e)
+
+-- a chain of rows, each with a `?`: a row that passes is skipped, and one that refuses is the answer
+pub skip : {r u v : Verdict} → Ok tt ≡ u → r ≡ v → r ≡ (u or_else v)
+skip {v} passed e = e ∙ ap (λ (w : Verdict). w or_else v) passed
+
+pub stop : {r u : Verdict} {refusal : Refusal} (v : Verdict) → IsErr r × IsErrAnd r (λ x. x ≡ refusal) → Err refusal ≡ u → r ≡ (u or_else v)
+stop {r = Ok passed} v h e = absurd (cc h.0)
+stop {r = Err x} v h e = ap (λ (y : Refusal). Err y) h.1 ∙ ap (λ (w : Verdict). w or_else v) e
+
+module _ (row : Row) {test : Bool} (place : ℕ) where
+  pub refuse_unless-true : test ≡ true → refuse_unless row test place ≡ Ok tt
   unfolding refuse_unless
-  refuse_unless-true e = ap (λ (t : Bool). cond t Passed (Refused number place)) e
+  refuse_unless-true e = ap (λ (t : Bool). cond t (Ok tt) (refused row place)) e
 
-  pub refuse_unless-false : test ≡ false → refuse_unless number test place ≡ Refused number place
+  pub refuse_unless-false : test ≡ false → refuse_unless row test place ≡ refused row place
   unfolding refuse_unless
-  refuse_unless-false e = ap (λ (t : Bool). cond t Passed (Refused number place)) e
+  refuse_unless-false e = ap (λ (t : Bool). cond t (Ok tt) (refused row place)) e
 
-module _ (number : ℕ) (test : ℕ → Bool) (from end : ℕ) where
-  pub refuse_first-none : end ≤ first_bad test from end → refuse_first number test from end ≡ Passed
+module _ (row : Row) (test : ℕ → Bool) (from end : ℕ) where
+  pub refuse_first-none : end ≤ first_bad test from end → refuse_first row test from end ≡ Ok tt
   unfolding refuse_first
-  refuse_first-none h = refuse_unless-true number _ (le-leb end _ h)
+  refuse_first-none h = refuse_unless-true row _ (le-leb end _ h)
 
-  pub refuse_first-some : first_bad test from end < end → refuse_first number test from end ≡ Refused number (first_bad test from end)
+  pub refuse_first-some : first_bad test from end < end → refuse_first row test from end ≡ refused row (first_bad test from end)
   unfolding refuse_first
-  refuse_first-some h = refuse_unless-false number _ (lt-leb end _ h)
+  refuse_first-some h = refuse_unless-false row _ (lt-leb end _ h)
 
--- ---- rows 1 to 3
+  pub refuse_at-bad : refuse_at row (bad_in test from end) ≡ refuse_first row test from end
+  unfolding refuse_first refuse_unless bad_in
+  refuse_at-bad = go (leb end (first_bad test from end))
+    where
+      go : (t : Bool) → refuse_at row (cond t None (Some (first_bad test from end))) ≡ cond t (Ok tt) (refused row (first_bad test from end))
+      go true = refl
+      go false = refl
 
-module _ (b : List ℕ) where
-  pub row1-passed : 20 ≤ length b → length b ≤ most_words → refuse_unless 1 (within 20 most_words (length b)) (length b) ≡ Passed
-  row1-passed low high = refuse_unless-true 1 _ (rw (le-leb 20 _ low, le-leb _ most_words high))
+  pub refuse_first-unfound : bad_in test from end ≡ None → refuse_first row test from end ≡ Ok tt
+  refuse_first-unfound e = sym refuse_at-bad ∙ ap (refuse_at row) e
 
-  pub row2-passed : 20 ≤ first_bad (header_ok b) 0 20 → refuse_first 2 (header_ok b) 0 20 ≡ Passed
-  row2-passed h = refuse_first-none 2 (header_ok b) 0 20 h
+-- the laws of a chain of rows
+pub ruleset chain = (skip, stop, tested)
 
-  pub row3-passed : length b ≡ board_words b → refuse_unless 3 (eqb (length b) (board_words b)) (board_words b) ≡ Passed
-  row3-passed e = refuse_unless-true 3 (board_words b) (eq-eqb _ _ e)
-
-  pub refusal-short : length b < 20 → Refused 1 (length b) ≡ refusal_of b
-  unfolding refusal_of refuse_unless
-  refusal-short h = rw (lt-leb 20 _ h)
-
-  pub refusal-long : 20 ≤ length b → most_words < length b → Refused 1 (length b) ≡ refusal_of b
-  unfolding refusal_of refuse_unless
-  refusal-long l h = rw (le-leb 20 _ l, lt-leb _ most_words h)
-
-  module _ (low : 20 ≤ length b) (high : length b ≤ most_words) (bad : ℕ) (found : bad ≡ first_bad (header_ok b) 0 20) where
-    pub refusal-header : bad < 20 → Refused 2 bad ≡ refusal_of b
-    unfolding refusal_of
-    refusal-header h = rw (row1-passed low high, refuse_first-some 2 (header_ok b) 0 20 (rw found at h)) (ap (Refused 2) found)
-
-    pub refusal-words : 20 ≤ bad → (words : ℕ) → words ≡ board_words b → (length b ≡ words → ⊥) → Refused 3 words ≡ refusal_of b
-    unfolding refusal_of
-    refusal-words end words e h =
-        rw (e, row1-passed low high, row2-passed (rw found at end), refuse_unless-false 3 (board_words b) (ne_eqb _ _ (rw e at h)))
-
--- the laws that `check` closes its ways out by
-pub ruleset ways_out = (refusal-short, refusal-long, refusal-header)
+-- those of a row that refuses at the first bad word
+pub ruleset first_rows = (refuse_first-none, refuse_at-bad, refuse_first-unfound)

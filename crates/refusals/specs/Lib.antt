@@ -1,2 +1,3 @@
 -- Which boards are refused.
 pub mod Refusals
+pub mod Found

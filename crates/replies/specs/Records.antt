@@ -1,10 +1,9 @@
 -- The figures table as 32-bit words: a buffer of m words has room for m / record_words records.
 -- Assumes nothing.
-use Rattle.std.specs.Prelude.{ℕ, ◌*◌, ◌/◌, ◌%◌, ◌^◌, List, [], ◌∷◌, ◌++◌, length, get_or}
+use Rattle.std.specs.Prelude.{ℕ, ◌*◌, ◌/◌, ◌%◌, ◌^◌, List, Ok, Err, [], ◌∷◌, ◌++◌, length, get_or}
 use Rattle.folds.specs.Folds.{fill_to}
 use Rattle.board.specs.Layout.{tasks}
-use Rattle.refusals.specs.declared.Verdict.{Verdict}
-use Rattle.refusals.specs.declared.Verdict.TheVariants.{Passed, Refused}
+use Rattle.refusals.specs.Refusals.{Verdict}
 use Rattle.figures.specs.declared.Figure.{Figure}
 use Rattle.figures.specs.Figures.{figure_of}
 
@@ -45,5 +44,5 @@ table_word b w = figure_word (figure_of b (w / record_words)) (w % record_words)
 
 -- the words, which were `old`, after a call: its first n records are the figures, unless refused
 unfoldable pub records_after : List ℕ → Verdict → List ℕ → List ℕ
-records_after b Passed old = fill_to (table_word b) (record_words * tasks b) old
-records_after b (Refused number place) old = old
+records_after b (Ok passed) old = fill_to (table_word b) (record_words * tasks b) old
+records_after b (Err refusal) old = old

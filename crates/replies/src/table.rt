@@ -1,51 +1,47 @@
 // The figures table as 32-bit words.
-ghost use Rattle.std.specs.Prelude.{◌≡◌, ◌*◌, ◌≤◌, length};
+ghost use Rattle.std.specs.Prelude.{◌≡◌, ◌+◌, ◌*◌, ◌≤◌, length, get_or};
 ghost use Rattle.folds.specs.Folds.{fill_to};
+ghost use Rattle.folds.specs.Stored.{Stored};
 ghost use Rattle.figures.specs.Survey.{Fillable};
 ghost use Rattle.replies.specs.Records.{record_words, low_half, high_half, ecb_halves, figure_words, table_word};
 
-use figures::{ECB_WORDS, Figure, figure_at};
+use board::Board;
+use figures::{Figure, FigureWords};
 
 // The words of a record.
 pub const RECORD_WORDS: usize = 21;
 
-// Fills the first n records with the figures of the tasks below n. The words past them stay as they are.
-pub fn fill_words(
-    board: &[u32],
-    n: usize,
-    words: &[u32],
-    sets: &[u64; ECB_WORDS],
-    records: &mut [u32],
-)
-    requires { (Fillable board.now n words.now sets.now) × (record_words * n ≤ length records.old) }
-    ensures { records.new ≡ fill_to (table_word board.now) (record_words * n) records.old }
+// Fills as many records as `figures` has with the figures of the first tasks. The words past them stay as they are.
+pub fn fill_words(board: &[u32], figures: &FigureWords, records: &mut [u32])
+    requires { (Fillable board.now figures.now.records figures.now.words figures.now.sets)
+        × (record_words * figures.now.records ≤ length records.old) }
+    ensures { records.new ≡ fill_to (table_word board.now) (record_words * figures.now.records) records.old }
 {
-    let end = RECORD_WORDS * n;
-    let mut current = [0u32; RECORD_WORDS];
-    let mut w: usize = 0;
-    while w < end {
-        let at = w % RECORD_WORDS;
-        if at == 0 {
-            current = words_of(figure_at(board, n, words, sets, w / RECORD_WORDS));
-        }
-        records[w] = current[at];
-        w += 1;
+    // of a board that was refused there is no record, so that only a turn knows that it passed
+    for k in 0..figures.records {
+        let figure = figures.figure_at(&Board::of(board), k);
+        store(records, k, words_of(figure));
     }
 }
 
-// The words of one record.
+// Stores the words of record k.
+fn store(records: &mut [u32], k: usize, words: [u32; RECORD_WORDS])
+    requires { record_words * k + record_words ≤ length records.old }
+    ensures { Stored (λ w. get_or words w 0) (record_words * k) record_words records.old records.new }
+{
+    let at = RECORD_WORDS * k;
+    records[at..at + RECORD_WORDS].copy_from_slice(&words);
+}
+
+// The words of one record. It is a function, since only the crate of a type may give it a `From`.
 fn words_of(f: Figure) -> [u32; RECORD_WORDS]
     ensures { result ≡ figure_words f }
 {
-    let ecb = f.ecb;
-    let data_ecb = f.data_ecb;
-    let code = halves(ecb);
-    let data = halves(data_ecb);
-    [
-        f.core, f.period, f.deadline, f.pd, f.md, code[0], code[1], code[2], code[3], code[4],
-        code[5], code[6], code[7], data[0], data[1], data[2], data[3], data[4], data[5], data[6],
-        data[7],
-    ]
+    let mut words = [0; RECORD_WORDS];
+    words[..5].copy_from_slice(&[f.core, f.period, f.deadline, f.pd, f.md]);
+    words[5..13].copy_from_slice(&halves(f.ecb));
+    words[13..].copy_from_slice(&halves(f.data_ecb));
+    words
 }
 
 // The four words of an ECB, each as its low and its high half.
@@ -67,11 +63,11 @@ fn halves(ecb: [u64; 4]) -> [u32; 8]
 fn low_half(x: u64) -> u32
     ensures { result ≡ low_half x }
 {
-    (x % 4294967296) as u32
+    (x % (1 << 32)) as u32
 }
 
 fn high_half(x: u64) -> u32
     ensures { result ≡ high_half x }
 {
-    (x / 4294967296) as u32
+    (x >> 32) as u32
 }

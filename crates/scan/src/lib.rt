@@ -3,83 +3,48 @@
 
 mod points;
 
-ghost use Rattle.std.specs.Prelude.{◌≡◌, true, ◌≤◌, length};
+ghost use Rattle.std.specs.Prelude.{◌≡◌, ℕ, ◌≤◌, List, Some};
 ghost use Rattle.board.specs.Layout.{cache_count};
 ghost use Rattle.entries.specs.Marks.{AllEarlier, base_of};
 ghost use Rattle.trace.specs.Starts.{Starts};
-ghost use Rattle.figures.specs.Ready.{Ready};
-ghost use Rattle.figures.specs.Rows.{Evicted};
 ghost use Rattle.figures.specs.Higher.{Higher};
 ghost use Rattle.scan.specs.Found.{Found};
 
-use board::{MOST_TASKS, fields};
-use entries::{HELD_WORDS, MARK_WORDS};
-use figures::ECB_WORDS;
-use folds::index;
+use bitset::SET_WORDS;
+use board::MOST_TASKS;
+use entries::Workspace;
+use figures::row::Preempted;
 use marks::mark_trace;
 use points::raise_points;
 use trace::cursor::Cursor;
-use trace::demand;
 use trace::demand::Demand;
+use trace::{Trace, demand};
 
-// PD and MD of one trace of task i of a board with this number of caches. Its evicting cache blocks are added to `ecb` and, with `rows`, the row is raised by its
-// useful blocks. Without a cache nothing is evicted or useful. `higher` has the tasks above task i on its core, and `held` no block of this trace or of a later
-// one; `marks` is room to work in.
+// PD and MD of one trace of a task. Its evicting cache blocks are added to `ecb`, and the row, where there is one, is raised by its useful blocks. Without a
+// cache nothing is evicted or useful. `space` is room to work in, which holds no block of this trace or of a later one. The higher tasks are listed
+// where the row is to be raised.
 pub fn scan_trace(
-    board: &[u32],
-    caches: usize,
-    i: usize,
+    task: &Preempted,
     at: Cursor,
-    rows: bool,
-    higher: &[u32; MOST_TASKS],
-    evicted: &[u64; ECB_WORDS],
-    ecb: &mut [u64],
-    row: &mut [u32; MOST_TASKS],
-    held: &mut [u64; HELD_WORDS],
-    marks: &mut [u32; MARK_WORDS],
+    row: &mut Option<[u32; MOST_TASKS]>,
+    ecb: &mut [u64; SET_WORDS],
+    space: &mut Workspace,
 ) -> Demand
-    requires { (Ready board.now i) × (Starts board.now at.trace at.start) × (Evicted board.now i evicted.now)
-        × (AllEarlier (base_of at.trace) held.old) × (length ecb.old ≡ 8) × (caches ≡ cache_count board.now)
-        × (rows ≡ true → 1 ≤ caches → Higher board.now i higher.now) }
-    ensures { Found board.now i at.trace rows result.pd result.md ecb.old ecb.new row.old row.new
-        held.new }
+    requires { (Starts task.now.board.now at.trace at.start) × (AllEarlier (base_of at.trace) space.old.held)
+        × ((l : List ℕ) → row.old ≡ Some l → 1 ≤ cache_count task.now.board.now → Higher task.now.board.now task.now.index task.now.higher) }
+    ensures { Found task.now.board.now task.now.index at.trace result.pd result.md ecb.old ecb.new row.old row.new space.new.held }
 {
-    if 1 <= caches {
-        return under_cache(
-            board, caches, i, at, rows, higher, evicted, ecb, row, held, marks,
-        );
+    let board = task.board;
+    let len = board.trace_length(at.trace) as usize;
+    let trace = Trace::at(board.words(), at.start, len);
+    if board.cache_count() == 0 {
+        return demand::uncached(board, &trace);
     }
-    let len = index(fields::trace_length(board, at.trace));
-    demand::uncached(board, at.start, len)
-}
-
-// The same with a cache or two.
-fn under_cache(
-    board: &[u32],
-    caches: usize,
-    i: usize,
-    at: Cursor,
-    rows: bool,
-    higher: &[u32; MOST_TASKS],
-    evicted: &[u64; ECB_WORDS],
-    ecb: &mut [u64],
-    row: &mut [u32; MOST_TASKS],
-    held: &mut [u64; HELD_WORDS],
-    marks: &mut [u32; MARK_WORDS],
-) -> Demand
-    requires { (Ready board.now i) × (Starts board.now at.trace at.start) × (Evicted board.now i evicted.now)
-        × (AllEarlier (base_of at.trace) held.old) × (length ecb.old ≡ 8) × (caches ≡ cache_count board.now) × (1 ≤ caches)
-        × (rows ≡ true → Higher board.now i higher.now) }
-    ensures { Found board.now i at.trace rows result.pd result.md ecb.old ecb.new row.old row.new
-        held.new }
-{
-    let len = index(fields::trace_length(board, at.trace));
-    let base = 65536 * (at.trace as u64);
-    let md = mark_trace(board, caches, at.start, len, base, held, ecb, marks);
-    let pd = demand::pd(board, at.start, len);
-    let demand = Demand { pd, md };
-    if rows {
-        raise_points(board, i, len, caches, higher, evicted, marks, row);
+    let base = 65536 * (at.trace as u32);
+    let md = mark_trace(board, &trace, base, space, ecb);
+    if let Some(row) = row {
+        raise_points(task, len, &space.marks, row);
     }
-    demand
+    let pd = demand::pd(&trace);
+    Demand { pd, md }
 }

@@ -8,9 +8,9 @@ use native.Mathlib.Omega.{arith}
 use lib.ListN.{get_or}
 use Rattle.folds.proofs.Numbers.{below_suc}
 use Rattle.folds.specs.Stored.{Stored}
-use Rattle.figures.proofs.Rows.{row_within}
-use Rattle.scratch.specs.Scratch.{RowAddable, with_md, Addable, Added}
+use Rattle.scratch.specs.Scratch.{with_md, Addable, Added}
 
+-- to no row
 pub added_none : {n : ℕ} {w : List ℕ} → Added n 0 w w
 added_none = record { size = refl; rows = λ i k row column. absurd (omega arith); before = λ p h. refl; after = λ p h. refl }
 
@@ -21,15 +21,6 @@ module _ {n i at : ℕ} {w w₁ : List ℕ} (able : Addable n w) (so_far : Added
 
   moved : (k : ℕ) → with_md n at w k ≡ with_md n (4 * n + i * n) w k
   moved k = ap (λ (a : ℕ). with_md n a w k) place
-
-  pub row-addable : RowAddable n at w₁
-  row-addable =
-      record {
-        few = able.few;
-        behind = omega arith;
-        words = omega (arith, row_within n n i row, able.words, so_far.size);
-        fits = λ k column. omega (arith, same k column, moved k, able.fits i k row column);
-      }
 
   pub added_next : {w₂ : List ℕ} → Stored (with_md n at w₁) at n w₁ w₂ → Added n (i + 1) w w₂
   added_next {w₂} stored =

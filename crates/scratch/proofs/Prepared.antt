@@ -6,19 +6,16 @@ use mathlib.Core.Bool.{true}
 use mathlib.Core.Path.{◌≡◌, refl, sym, ap, ap₂, subst, ◌∙◌}
 use native.Mathlib.Nat.{add_comm}
 use native.Mathlib.Omega.{arith}
-use lib.ListN.{length, get_or, take, drop, replicate, length-drop}
+use lib.ListN.{length, get_or, take, drop, length-drop}
 use lib.Seq.{length-take-le, get_or-take, get_or-drop}
 use Rattle.board.specs.Layout as at
-use Rattle.board.specs.Sound.{Sound}
 use Rattle.figures.specs.Figures.{task_pd, task_md}
 use Rattle.figures.specs.Overhead.{γ}
 use Rattle.figures.specs.Survey.{Surveyed, Overheads}
 use Rattle.figures.proofs.Fillable.{surveyed-tasks}
 use Rattle.figures.proofs.Bounds.{task_md-bound, γ-bound}
 use Rattle.sums.specs.Sums.{memory_demand}
-use Rattle.sums.specs.Links.{LinkedTo, Linked}
-use Rattle.sums.specs.Limits.{most_cores}
-use Rattle.sums.proofs.Links.{linked-none}
+use Rattle.sums.specs.Links.{Linked}
 use Rattle.sums.specs.Inputs.{Holds, CappedTimes, SumInput}
 use Rattle.folds.specs.Stored.{Stored}
 use Rattle.scratch.specs.Scratch.{Passable, ScratchRoom, with_md, Addable, Added, Prepared}
@@ -34,18 +31,7 @@ passable room = record { sound = room.sound; tasks = room.tasks; words = omega (
 pub passable-kept : {b : List ℕ} {n : ℕ} {w w' : List ℕ} → Passable b n w → length w' ≡ length w → Passable b n w'
 passable-kept room e = record { sound = room.sound; tasks = room.tasks; words = rw e room.words }
 
--- what making the links asks
-pub makeable : {b : List ℕ} {n : ℕ} {w : List ℕ} → ScratchRoom b n w → (Sound b) × (n ≡ at.tasks b) × LinkedTo b 0 (replicate (at.most_tasks + most_cores) 0)
-makeable {b} room = (room.sound, room.tasks, linked-none b)
-
--- what a survey of every task asks
-pub surveyable : {b : List ℕ} {n : ℕ} {w : List ℕ} → ScratchRoom b n w
-    → (Sound b) × (n ≤ at.tasks b) × (4 * at.tasks b ≤ length w) × (true ≡ true → at.scratch_words (at.tasks b) ≤ length w)
-surveyable {b} {n} {w} room =
-    let words : at.scratch_words (at.tasks b) ≤ length w = rw (← room.tasks) room.words in
-    (room.sound, omega (arith, room.tasks), omega arith, λ _. words)
-
--- what it leaves: the figures and the overheads are in w₁
+-- what a survey of every task leaves: the figures and the overheads are in w₁
 module _ {b : List ℕ} {n : ℕ} {w₀ w₁ sets : List ℕ} (room : ScratchRoom b n w₀)
     (surveyed : (Surveyed b (at.tasks b) n w₁ sets) × (true ≡ true → Overheads b (at.tasks b) n w₁) × (length w₁ ≡ length w₀)) where
   held : Surveyed b n n w₁ sets

@@ -1,3 +1,2 @@
 -- Laws of what a call has of its board once it is settled.
-pub mod Begun
 pub mod Settled

@@ -1,15 +1,13 @@
--- For the code: what is known of a call that its checks give the verdict v, once its figures are worked out.
+-- For the code: what is known of a call that its checks let through, once its figures are worked out.
 -- Assumes nothing.
-use Rattle.std.specs.Prelude.{ℕ, List, ◌≡◌}
-use Rattle.refusals.specs.declared.Verdict.{Verdict}
-use Rattle.refusals.specs.declared.Verdict.TheVariants.{Passed}
+use Rattle.std.specs.Prelude.{ℕ, List, ◌≡◌, length}
 use Rattle.figures.specs.Survey.{Fillable}
-use Rattle.answers.specs.Answers.{ScratchAfter}
-use Rattle.answers.specs.Records.{records_of}
+use Rattle.scratch.specs.Scratch.{Prepared}
+use Rattle.figures.specs.declared.FigureWords.{FigureWords}
 
--- n records are to be filled from the words and the sets; the scratch, which was `old`, is ready for the passes
-pub record Begun (Ready : List ℕ → Type 0) (b : List ℕ) (v : Verdict) (n : ℕ) (old scratch words sets : List ℕ) : Type 0 where
-  pub count : n ≡ records_of v b
-  pub fillable : Fillable b n words sets
-  pub scratch_left : ScratchAfter v old scratch
-  pub ready : v ≡ Passed → Ready scratch
+-- the n tasks have as many records to fill; the scratch, which was `old`, is ready for the passes
+pub record Begun (b : List ℕ) (n : ℕ) (old scratch : List ℕ) (f : FigureWords) : Type 0 where
+  pub count : f.records ≡ n
+  pub fillable : Fillable b f.records f.words f.sets
+  pub size : length scratch ≡ length old
+  pub ready : Prepared b n scratch

@@ -1,10 +1,12 @@
 -- Laws of a row of overheads, raised trace by trace and task by task.
 -- Assumes nothing.
 use Prim.Native.Nat.{ℕ, ◌+◌, ◌≤◌, ◌<◌, max}
-use mathlib.Core.Bool.{Bool, ◌&&◌}
+use mathlib.Core.Bool.{Bool, true, false, ◌&&◌, false≢true}
 use mathlib.Core.List.{List}
 use mathlib.Core.Logic.{⊎_elim}
-use mathlib.Core.Path.{◌≡◌, refl, sym, ap, ◌∙◌}
+use mathlib.Core.Path.{◌≡◌, refl, sym, ap, subst, ◌∙◌}
+use Rattle.std.proofs.Common.{Option, Some, None, is_some, option_map}
+use Rattle.std.specs.Bool.{then_some}
 use native.Mathlib.Omega.{arith}
 use lib.Dec.{eqb}
 use lib.ListN.{length, get_or, replicate, length-replicate, get_or-replicate}
@@ -14,7 +16,7 @@ use Rattle.folds.proofs.Numbers.{le-or-lt, only_if-zero}
 use Rattle.folds.proofs.Folds.{max_to-none, max_to-next}
 use Rattle.folds.proofs.Lists.{length-fill_to, fill_to-below, fill_to-from}
 use Rattle.folds.proofs.Loops.{max_to-turn}
-use Rattle.board.specs.Layout.{core, trace_count}
+use Rattle.board.specs.Layout.{core}
 use Rattle.trace.specs.Traces.{most_useful}
 use Rattle.figures.specs.Figures.{task_trace}
 use Rattle.figures.specs.Overhead.{evicted_by, reloads, γ}
@@ -36,10 +38,6 @@ module _ (b : List ℕ) (i : ℕ) where
   added-turn r row out next e q =
       raised-more b i (λ j. max_to (λ q. most_useful (task_trace b i q) (evicted_by b j)) r) _ _ row out next e q
       (λ j. sym (max_to-next (λ q. most_useful (task_trace b i q) (evicted_by b j)) r))
-
-  pub added-all : (row : List ℕ) → raised (added_by (trace_count b i)) i row ≡ raised (on_core_of b i (λ j. reloads b j i)) i row
-  unfolding reloads
-  added-all row = refl
 
 -- ---- the row of all tasks below k
 
@@ -72,6 +70,30 @@ row_next b k row row' below e = record {
     passed j h l =
         let one : more j ≡ reloads_below b j k = ap (λ (t : Bool). only_if (t && eqb (core b k) (core b j)) (reloads b j k)) (sym (lt-ltb j k l)) in
         fill_to-below (λ q. max (get_or row q 0) (more q)) row 0 k j l (omega (arith, below.long)) ∙ max_to-turn (reloads_below b j) k (below.each j h) one
+
+-- a row that is there is that of all tasks below k
+abbrev pub RowOf : List ℕ → ℕ → Option (List ℕ) → Type 0
+RowOf b k row = (l : List ℕ) → row ≡ Some l → Row b k l
+
+pub row_of-none : (b : List ℕ) (rows : Bool) {row : Option (List ℕ)} → row ≡ then_some rows (replicate 64 0) → (is_some row ≡ rows) × RowOf b 0 row
+row_of-none b true e = (ap is_some e, λ l q. subst (Row b 0) (let same : replicate 64 0 ≡ l = cc in same) (row-none b))
+row_of-none b false e = (ap is_some e, λ l q. absurd (let none : ⊥ = cc in none))
+
+pub row_of-next : (b : List ℕ) (k : ℕ) (row row' : Option (List ℕ)) → row' ≡ option_map (raised (on_core_of b k (λ j. reloads b j k)) k) row → RowOf b k row
+    → (is_some row' ≡ is_some row) × RowOf b (k + 1) row'
+row_of-next b k None row' e below = (ap is_some e, λ l q. absurd (let none : ⊥ = cc in none))
+row_of-next b k (Some m) row' e below =
+    (ap is_some e, λ l q. row_next b k m l (below m refl) (let same : l ≡ raised (on_core_of b k (λ j. reloads b j k)) k m = cc in same))
+
+-- a row that is there
+pub row-there : (row : Option (List ℕ)) → is_some row ≡ true → (l : List ℕ) × (row ≡ Some l)
+row-there None e = absurd (false≢true e)
+row-there (Some l) e = (l, refl)
+
+-- a row raised is there only where the row was
+pub row-was : (raise : List ℕ → List ℕ) (entry row : Option (List ℕ)) → row ≡ option_map raise entry → (l : List ℕ) → row ≡ Some l → is_some entry ≡ true
+row-was raise None row e l is = absurd (let none : ⊥ = cc in none)
+row-was raise (Some m) row e l is = refl
 
 -- the row of the tasks up to i
 pub row-overhead : (b : List ℕ) (i : ℕ) (row : List ℕ) → Row b (i + 1) row → (j : ℕ) → j < 64 → get_or row j 0 ≡ γ b i j

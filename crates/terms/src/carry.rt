@@ -8,15 +8,15 @@ ghost use Rattle.sums.specs.Limits.{longest_access, latest_time, longest_window,
 ghost use Rattle.sums.specs.Inputs.{RowInput};
 
 use crate::rows::{demand, time_and_jitter};
-use board::fields::{access_cycles, period};
-use folds::{ceil_div, floor_div, saturating_sub, wide};
+use board::Board;
+use folds::ceil_div;
 
 // The whole periods in u cycles.
 fn whole_periods(u: u64, period: u64) -> u64
     requires { Between 1 at.longest period × (u ≤ longest_window) }
     ensures { result ≡ u / period }
 {
-    floor_div(u, period)
+    u / period
 }
 
 // As many of some accesses of d cycles as fit into the cycles left: no division where they all do.
@@ -43,19 +43,29 @@ fn in_window(demand: u64, d: u64, period: u64, u: u64) -> u64
     }
 }
 
-// W(j, k) within t cycles, from the row of j.
-pub fn carry_in(board: &[u32], row: &[u32], times: &[u32], t: u64, j: usize, k: usize) -> u64
-    requires { RowInput board.now row.now times.now j × (t ≤ latest_time) × (k < at.tasks board.now) }
-    ensures { result ≡ carry_in board.now times.now t j k }
-{
-    let d = wide(access_cycles(board));
-    let accesses = demand(board, row, j, k);
-    let span = t + time_and_jitter(board, times, k);
-    let busy = accesses * d;
-    in_window(
-        accesses,
-        d,
-        wide(period(board, k)),
-        saturating_sub(span, busy),
-    )
+// Task j with its row D'(j, _), at some times, and a window of t cycles.
+#[derive(Clone, Copy)]
+pub struct Window<'a> {
+    pub board: &'a Board<'a>,
+    pub row: &'a [u32],
+    pub times: &'a [u32],
+    pub j: usize,
+    pub t: u64,
+    ghost rows: { RowInput board.now row.now times.now j },
+    ghost early: { t ≤ latest_time },
+}
+
+impl<'a> Window<'a> {
+    // W(j, k).
+    pub fn carry_in(&self, k: usize) -> u64
+        requires { k < at.tasks self.now.board.now }
+        ensures { result ≡ carry_in self.now.board.now self.now.times.now self.now.t self.now.j k }
+    {
+        let d = u64::from(self.board.access_cycles());
+        let accesses = demand(self.board, self.row, self.j, k);
+        let span = self.t + time_and_jitter(self.board, self.times, k);
+        let busy = accesses * d;
+        let period = u64::from(self.board.period(k));
+        in_window(accesses, d, period, span.saturating_sub(busy))
+    }
 }

@@ -1,4 +1,4 @@
--- Laws of bytes put into a buffer: nothing, one byte, one after the other; what the buffer then begins with.
+-- Laws of bytes put into a lent buffer: one byte, one after the other; put at its start, what it then begins with, and what stays.
 -- Assumes nothing.
 use Prim.Native.Nat.{ℕ, suc, ◌+◌, ◌≤◌, ◌<◌}
 use mathlib.Core.List.{List, [], ◌∷◌, ◌++◌}
@@ -11,20 +11,16 @@ use lib.Seq.{sets-eq, length-sets, length-take-le, take-suc, take_at, drop_at}
 use Rattle.io.specs.Counts.{IsPrefixLen}
 use Rattle.text.specs.Buffer.{laid, Put}
 
-pub laid-append : (xs ys : List ℕ) (at : ℕ) (old : List ℕ) → laid ys (at + length xs) (laid xs at old) ≡ laid (xs ++ ys) at old
+laid-append : (xs ys : List ℕ) (at : ℕ) (old : List ℕ) → laid ys (at + length xs) (laid xs at old) ≡ laid (xs ++ ys) at old
 unfolding laid
 laid-append [] ys at old = rw add-zero
 laid-append (x ∷ xs) ys at old = rw (add-suc, ← suc-add) (laid-append xs ys (suc at) (set old at x))
 
-pub length-laid : (xs : List ℕ) (at : ℕ) (old : List ℕ) → length (laid xs at old) ≡ length old
+length-laid : (xs : List ℕ) (at : ℕ) (old : List ℕ) → length (laid xs at old) ≡ length old
 unfolding laid
 length-laid xs at old = length-sets old at xs
 
--- nothing put
-pub put-none : (old : List ℕ) (at : ℕ) → at ≤ length old → Put old at [] old at
-unfolding laid
-put-none old at h = record { buffer = refl; place = sym (add-zero at); fits = h }
-
+-- one byte put
 pub put_one : (old : List ℕ) (at x : ℕ) → at < length old → Put old at (x ∷ []) (set old at x) (at + 1)
 unfolding laid
 put_one old at x h = record { buffer = refl; place = refl; fits = omega arith }
@@ -48,26 +44,40 @@ pub put_next : (text : List ℕ) (i : ℕ) {old mid new : List ℕ} {at next end
     → Put old at (take i text) mid next → Put mid next (get_or text i 0 ∷ []) new end → Put old at (take (i + 1) text) new end
 put_next text i l p q = rw (add-one, take-suc text i 0 l) (put_then p q)
 
--- the place after the bytes counts bytes at the start of the buffer
-pub put-counts : {old new xs : List ℕ} {at next : ℕ} → Put old at xs new next → IsPrefixLen next new
-put-counts {old} {new} {xs} {at} {next} p =
-    let size : length new ≡ length old = ap length p.buffer ∙ length-laid xs at old in
-    let room : next ≤ length new = omega (arith, p.fits) in
-    (room, sym (length-take-le next new room))
+-- bytes laid in at the start: before what the buffer has after them
+laid_first : (old bytes : List ℕ) → length bytes ≤ length old → laid bytes 0 old ≡ bytes ++ drop (length bytes) old
+unfolding laid
+laid_first old bytes h =
+    let none : 0 + length bytes ≡ length bytes = omega arith in
+    sets-eq bytes old 0 (omega arith) ∙ ap (λ (n : ℕ). bytes ++ drop n old) none
 
--- bytes put at the start are what the buffer begins with, and the rest is as it was
-module _ {old new xs : List ℕ} {next : ℕ} (p : Put old 0 xs new next) where
-  count : next ≡ length xs
+pub put_first : (old bytes part : List ℕ) (size : ℕ) → length bytes ≤ length old → part ≡ bytes → size ≡ length bytes
+    → Put old 0 bytes (part ++ drop size old) size
+put_first old bytes part size h e s = record {
+  buffer = rw (e, s) (sym (laid_first old bytes h));
+  place = omega arith;
+  fits = omega arith;
+}
+
+module _ {old new bytes : List ℕ} {next : ℕ} (p : Put old 0 bytes new next) where
+  count : next ≡ length bytes
   count = omega (arith, p.place)
 
-  whole : new ≡ xs ++ drop (length xs) old
-  unfolding laid
-  whole =
-      let none : 0 + length xs ≡ length xs = omega arith in
-      p.buffer ∙ sets-eq xs old 0 (omega (arith, p.fits, p.place)) ∙ ap (λ (n : ℕ). xs ++ drop n old) none
+  whole : new ≡ bytes ++ drop (length bytes) old
+  whole = p.buffer ∙ laid_first old bytes (omega (arith, p.fits, p.place))
 
-  pub put-take : take next new ≡ xs
-  put-take = rw whole (take_at xs (drop (length xs) old) next (sym count))
+  -- the place after the bytes counts bytes at the start of the buffer
+  pub put-counts : IsPrefixLen next new
+  put-counts =
+      let size : length new ≡ length old = ap length p.buffer ∙ length-laid bytes 0 old in
+      let room : next ≤ length new = omega (arith, p.fits) in
+      (room, sym (length-take-le next new room))
+
+  -- the bytes are what the buffer begins with, and the rest is as it was
+  pub put-take : take next new ≡ bytes
+  put-take = rw whole (take_at bytes (drop (length bytes) old) next (sym count))
 
   pub put-drop : drop next new ≡ drop next old
-  put-drop = rw whole (drop_at xs (drop (length xs) old) next (sym count) ∙ ap (λ (n : ℕ). drop n old) (sym count))
+  put-drop = rw whole (drop_at bytes (drop (length bytes) old) next (sym count) ∙ ap (λ (n : ℕ). drop n old) (sym count))
+
+pub ruleset started = (put-counts, put-take, put-drop)

@@ -1,34 +1,32 @@
--- Lines put into a buffer field by field, and lines joined.
+-- Lines put into a page field by field, and lines joined.
 -- Assumes nothing.
-use Prim.Native.Nat.{ℕ, ◌+◌, ◌≤◌}
-use mathlib.Core.List.{List, [], ◌∷◌, ◌++◌, append_assoc}
-use mathlib.Core.Path.{◌≡◌}
-use lib.ListN.{length}
+use Prim.Native.Nat.{ℕ, ◌+◌}
+use mathlib.Core.List.{List, [], ◌∷◌, ◌++◌, append_assoc, append-nil}
+use mathlib.Core.Path.{◌≡◌, refl, sym}
 use Rattle.folds.specs.Folds.{join_to}
 use Rattle.folds.proofs.Joined.{join_to-none, join_to-next}
 use Rattle.text.specs.Text.{line}
-use Rattle.text.specs.Buffer.{Put}
-use Rattle.text.proofs.Buffer.{put-none, put_same, put_then}
-
-line-more : (field next : List ℕ) (rest : List (List ℕ)) → (field ++ (32 ∷ [])) ++ line (next ∷ rest) ≡ line (field ∷ next ∷ rest)
-unfolding line
-line-more field next rest = append_assoc field (32 ∷ []) (line (next ∷ rest))
 
 -- the last field of a line
-pub put_last : (field : List ℕ) {old new : List ℕ} {at end : ℕ} → Put old at (field ++ (10 ∷ [])) new end → Put old at (line (field ∷ [])) new end
+pub put_last : (old field : List ℕ) → old ++ line (field ∷ []) ≡ old ++ (field ++ (10 ∷ []))
 unfolding line
-put_last field p = p
+put_last old field = refl
 
 -- a field before the others
-pub put-more : (field next : List ℕ) (rest : List (List ℕ)) {old mid new : List ℕ} {at then end : ℕ}
-    → Put old at (field ++ (32 ∷ [])) mid then → Put mid then (line (next ∷ rest)) new end → Put old at (line (field ∷ next ∷ rest)) new end
-put-more field next rest p q = put_same (line-more field next rest) (put_then p q)
+pub put_more : (old field next : List ℕ) (rest : List (List ℕ)) → old ++ line (field ∷ next ∷ rest) ≡ (old ++ (field ++ (32 ∷ []))) ++ line (next ∷ rest)
+unfolding line
+put_more old field next rest = simp append_assoc
 
--- lines joined: none, and one more
-module _ (f : ℕ → List ℕ) {old : List ℕ} {at : ℕ} where
-  pub put-joined-none : at ≤ length old → Put old at (join_to f 0) old at
-  put-joined-none h = rw join_to-none (put-none old at h)
+-- one after the other
+pub put_then : (old first next : List ℕ) → old ++ (first ++ next) ≡ (old ++ first) ++ next
+put_then old first next = sym (append_assoc old first next)
 
-  pub put-joined-next : (k : ℕ) {mid new : List ℕ} {next end : ℕ} → Put old at (join_to f k) mid next → Put mid next (f k) new end
-      → Put old at (join_to f (k + 1)) new end
-  put-joined-next k p q = rw join_to-next (put_then p q)
+module _ (f : ℕ → List ℕ) (old : List ℕ) where
+  -- lines joined: none, and one more
+  pub joined_none : old ++ join_to f 0 ≡ old
+  joined_none = rw (join_to-none f) (append-nil old)
+
+  pub joined_next : (k : ℕ) → old ++ join_to f (k + 1) ≡ (old ++ join_to f k) ++ f k
+  joined_next k = rw (join_to-next f k) (sym (append_assoc old (join_to f k) (f k)))
+
+pub ruleset joined = (joined_none, joined_next)

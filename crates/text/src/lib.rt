@@ -1,64 +1,45 @@
-// Fields put into a lent buffer. Each function puts bytes at a place and answers the place after them.
+// The page of a program, put together in fixed memory: fields, each with the byte that ends it.
 #![tactic(auto)]
 
 pub mod lines;
 
-ghost use Rattle.std.specs.Prelude.{◌≡◌, [], ◌∷◌, ◌++◌, ◌+◌, ◌≤◌, ◌<◌, length};
+ghost use Rattle.std.specs.Prelude.{◌≡◌, [], ◌∷◌, ◌++◌, ◌+◌, ◌^◌, ◌≤◌, ◌<◌, length};
 ghost use Rattle.text.specs.Text.{decimal};
 ghost use Rattle.text.specs.Buffer.{Put};
 
-fn put_byte(out: &mut [u8], at: usize, byte: u8) -> usize
-    requires { at < length out.old }
-    ensures { Put out.old at (byte ∷ []) out.new result }
-{
-    out[at] = byte;
-    at + 1
-}
+use arrayvec::ArrayVec;
 
-fn put_text(out: &mut [u8], at: usize, text: &[u8]) -> usize
-    requires { at + length text.now ≤ length out.old }
-    ensures { Put out.old at text.now out.new result }
-{
-    let mut next = at;
-    let mut i = 0;
-    while i < text.len() {
-        next = put_byte(out, next, text[i]);
-        i += 1;
-    }
-    next
-}
+// A page of at most N bytes. It always has room, and `write!` does not promise to succeed where there is: so its bytes are put by the functions here.
+pub type Page<const N: usize> = ArrayVec<u8, N>;
 
 // Puts a field and the byte that ends it.
-pub fn put_field(out: &mut [u8], at: usize, field: &[u8], end: u8) -> usize
-    requires { at + length field.now < length out.old }
-    ensures { Put out.old at (field.now ++ (end ∷ [])) out.new result × (result ≡ at + length field.now + 1) }
+pub fn put_field<const N: usize>(page: &mut Page<N>, field: &[u8], end: u8)
+    requires { length page.old.items + length field.now < N }
+    ensures { page.new.items ≡ page.old.items ++ (field.now ++ (end ∷ [])) }
 {
-    let next = put_text(out, at, field);
-    put_byte(out, next, end)
+    page.try_extend_from_slice(field).unwrap();
+    page.push(end);
 }
 
-// Puts a number in decimal and the byte that ends it.
-fn put_decimal(out: &mut [u8], at: usize, x: u64, end: u8) -> usize
-    requires { at + length (decimal x) < length out.old }
-    ensures { Put out.old at (decimal x ++ (end ∷ [])) out.new result }
+// Puts a number in decimal, which has at most 20 digits, and 10 where it fits a word; and the byte that ends it.
+pub fn put_number<const N: usize>(page: &mut Page<N>, x: u64, end: u8)
+    requires word { x < 2 ^ 32 → length page.old.items + 10 < N }
+    requires more { 2 ^ 32 ≤ x → length page.old.items + 20 < N }
+    ensures put { page.new.items ≡ page.old.items ++ (decimal x ++ (end ∷ [])) }
+    ensures most { length page.new.items ≤ length page.old.items + 21 }
+    ensures word { x < 2 ^ 32 → length page.new.items ≤ length page.old.items + 11 }
 {
     let mut digits = [0u8; 20];
     let count = io::decimal(x, &mut digits);
-    put_field(out, at, &digits[..count], end)
+    put_field(page, &digits[..count], end);
 }
 
-// The same for any number: at most 20 digits.
-pub fn put_number(out: &mut [u8], at: usize, x: u64, end: u8) -> usize
-    requires { at + 20 < length out.old }
-    ensures { Put out.old at (decimal x ++ (end ∷ [])) out.new result × (result ≤ at + 21) }
+// Puts a page at the start of a lent buffer, and answers its length.
+pub fn put_page<const N: usize>(out: &mut [u8], page: &Page<N>) -> usize
+    requires { N ≤ length out.old }
+    ensures { Put out.old 0 page.now.items out.new result }
 {
-    put_decimal(out, at, x, end)
-}
-
-// The same for a word: at most 10 digits.
-pub fn put_word(out: &mut [u8], at: usize, x: u32, end: u8) -> usize
-    requires { at + 10 < length out.old }
-    ensures { Put out.old at (decimal x ++ (end ∷ [])) out.new result × (result ≤ at + 11) }
-{
-    put_decimal(out, at, x as u64, end)
+    let size = page.len();
+    out[..size].copy_from_slice(page.as_slice());
+    size
 }

@@ -1,27 +1,28 @@
-// Lines of a text and of numbers, put into a lent buffer.
-ghost use Rattle.std.specs.Prelude.{[], ◌∷◌, ◌+◌, ◌≤◌, length};
+// Lines of a text and of numbers, put into a page.
+ghost use Rattle.std.specs.Prelude.{◌≡◌, [], ◌∷◌, ◌++◌, ◌+◌, ◌≤◌, length};
 ghost use Rattle.text.specs.Text.{decimal, line};
-ghost use Rattle.text.specs.Buffer.{Put};
 
-use crate::{put_field, put_number};
+use crate::{Page, put_field, put_number};
 
 // Puts a line of a text and one number: at most 22 bytes after the text.
-pub fn number_line(out: &mut [u8], at: usize, text: &[u8], x: u64) -> usize
-    requires { at + length text.now + 22 ≤ length out.old }
-    ensures { Put out.old at (line (text.now ∷ decimal x ∷ [])) out.new result
-        × (result ≤ at + length text.now + 22) }
+#[tactic(auto, unfolding(crate::specs::Text::line))]
+pub fn number_line<const N: usize>(page: &mut Page<N>, text: &[u8], x: u64)
+    requires { length page.old.items + length text.now + 22 ≤ N }
+    ensures put { page.new.items ≡ page.old.items ++ line (text.now ∷ decimal x ∷ []) }
+    ensures most { length page.new.items ≤ length page.old.items + length text.now + 22 }
 {
-    let next = put_field(out, at, text, b' ');
-    put_number(out, next, x, b'\n')
+    put_field(page, text, b' ');
+    put_number(page, x, b'\n');
 }
 
 // Puts a line of a text and two numbers: at most 43 bytes after the text.
-pub fn pair_line(out: &mut [u8], at: usize, text: &[u8], x: u64, y: u64) -> usize
-    requires { at + length text.now + 43 ≤ length out.old }
-    ensures { Put out.old at (line (text.now ∷ decimal x ∷ decimal y ∷ [])) out.new result
-        × (result ≤ at + length text.now + 43) }
+#[tactic(auto, using(crate::proofs::Fields::put_more, crate::proofs::Fields::put_last))]
+pub fn pair_line<const N: usize>(page: &mut Page<N>, text: &[u8], x: u64, y: u64)
+    requires { length page.old.items + length text.now + 43 ≤ N }
+    ensures put { page.new.items ≡ page.old.items ++ line (text.now ∷ decimal x ∷ decimal y ∷ []) }
+    ensures most { length page.new.items ≤ length page.old.items + length text.now + 43 }
 {
-    let first = put_field(out, at, text, b' ');
-    let next = put_number(out, first, x, b' ');
-    put_number(out, next, y, b'\n')
+    put_field(page, text, b' ');
+    put_number(page, x, b' ');
+    put_number(page, y, b'\n');
 }

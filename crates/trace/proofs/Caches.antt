@@ -9,10 +9,11 @@ use native.Mathlib.Nat.{mod-lt, zero-add}
 use native.Mathlib.Omega.{arith}
 use borrow.Author.Tests.{eq-eqb, ne_eqb, le-leb, lt-leb}
 use Rattle.folds.proofs.Numbers.{le-or-lt}
-use Rattle.board.specs.Layout.{memory, cache_sets, data_sets, most_sets, first_data_block}
+use Rattle.board.specs.Layout.{memory, cache_sets, data_sets, ways, most_sets, first_data_block}
 use Rattle.board.specs.Sound.{Sound}
 use Rattle.trace.specs.Cache.{set_of, place_of, all_sets}
-use Rattle.trace.specs.Caches.{place_in, Placing, CachesOf}
+use Rattle.trace.specs.Caches.{place_in, CachesOf}
+use Rattle.trace.specs.Reciprocal.{SetDivisor}
 use Rattle.trace.specs.declared.cache.Cache.{Cache}
 
 -- ---- where a block lies
@@ -57,27 +58,31 @@ module _ (b : List ℕ) (sound : Sound b) where
       datum h (yes two) = let sets = sound.data_sets two in omega (arith, place-data b m two h, mod-lt m sets.0, sets.1)
       datum h (no one) = below (place-one b m one)
 
-pub place_in-low : (cache : Cache) → Placing cache → (m : ℕ) → place_in cache m < all_sets
-place_in-low cache known m = omega (arith, known.near, known.divisor.few, mod-lt m known.divisor.some)
+pub place_in-low : (cache : Cache) (m : ℕ) → place_in cache m < all_sets
+place_in-low cache m = omega (arith, cache.near, cache.few, mod-lt m cache.some)
+
+-- a cache has the reciprocal of its sets
+pub divides : (cache : Cache) → SetDivisor cache.sets cache.inverse
+divides cache = record { some = cache.some; few = cache.few; reciprocal = cache.reciprocal }
 
 -- ---- the caches that the code finds
 
-module _ (b : List ℕ) (code : Cache) (known : Placing code) (start : code.first ≡ 0) (sets : code.sets ≡ cache_sets b) where
+module _ (b : List ℕ) (code : Cache) (start : code.first ≡ 0) (sets : code.sets ≡ cache_sets b) (width : code.ways ≡ ways b) where
   in-code : (m : ℕ) → set_of (cache_sets b) m ≡ place_in code m
   in-code m = sym (zero-add (set_of (cache_sets b) m)) ∙ ap₂ (λ (first c : ℕ). first + set_of c m) (sym start) (sym sets)
 
   pub caches-one : (memory b ≡ 3 → ⊥) → CachesOf b code code
   caches-one k = record {
-    code_placing = known;
-    data_placing = known;
+    code_ways = width;
+    data_ways = width;
     code_place = λ m h. place-one b m k ∙ in-code m;
     data_place = λ m h. place-one b m k ∙ in-code m;
   }
 
-  pub caches-two : (datum : Cache) → memory b ≡ 3 → Placing datum → datum.first ≡ most_sets → datum.sets ≡ data_sets b → CachesOf b code datum
-  caches-two datum k known' start' sets' = record {
-    code_placing = known;
-    data_placing = known';
+  pub caches-two : (datum : Cache) → memory b ≡ 3 → datum.first ≡ most_sets → datum.sets ≡ data_sets b → datum.ways ≡ ways b → CachesOf b code datum
+  caches-two datum k start' sets' width' = record {
+    code_ways = width;
+    data_ways = width';
     code_place = λ m h. place-code b m h ∙ in-code m;
     data_place = λ m h. place-data b m k h ∙ ap₂ (λ (first c : ℕ). first + set_of c m) (sym start') (sym sets');
   }

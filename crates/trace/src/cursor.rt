@@ -1,39 +1,38 @@
 // The board's traces, one after the other: each starts where the one before it ends.
 ghost use Rattle.std.specs.Prelude.{◌≡◌, ◌+◌};
-ghost use Rattle.board.specs.Sound.{Sound};
 ghost use Rattle.trace.specs.Starts.{start_of, Starts, At};
 
-use board::fields;
-use folds::index;
+use board::Board;
 
 // A trace: its number among the board's traces, and the place of its first fetch word.
-#[derive(Clone, Copy)]
+#[derive(Clone, Copy, Debug, PartialEq, Eq)]
 pub struct Cursor {
     pub trace: usize,
     pub start: usize,
 }
 
-// The first trace of the first task.
-pub fn first(board: &[u32]) -> Cursor
-    requires { Sound board.now }
-    ensures { At board.now 0 0 result.trace result.start }
-{
-    let n = index(fields::tasks(board));
-    let q = index(fields::traces(board));
-    Cursor {
-        trace: 0,
-        start: 20 + 5 * n + q,
+impl Cursor {
+    // The first trace of the first task.
+    pub fn first(board: &Board) -> Cursor
+        ensures { At board.now 0 0 result.trace result.start }
+    {
+        let n = board.tasks() as usize;
+        let q = board.traces() as usize;
+        Cursor {
+            trace: 0,
+            start: 20 + 5 * n + q,
+        }
     }
-}
 
-// The trace after it.
-pub fn next(board: &[u32], at: Cursor) -> Cursor
-    requires { Starts board.now at.trace at.start }
-    ensures { (result.trace ≡ at.trace + 1) × (result.start ≡ start_of board.now (at.trace + 1)) }
-{
-    let len = index(fields::trace_length(board, at.trace));
-    Cursor {
-        trace: at.trace + 1,
-        start: at.start + len,
+    // The trace after it.
+    pub fn next(self, board: &Board) -> Cursor
+        requires { Starts board.now self.trace self.start }
+        ensures { (result.trace ≡ self.trace + 1) × (result.start ≡ start_of board.now (self.trace + 1)) }
+    {
+        let len = board.trace_length(self.trace) as usize;
+        Cursor {
+            trace: self.trace + 1,
+            start: self.start + len,
+        }
     }
 }

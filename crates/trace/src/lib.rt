@@ -5,73 +5,68 @@ pub mod cache;
 pub mod cursor;
 pub mod demand;
 
-ghost use Rattle.std.specs.Prelude.{◌≡◌, ◌+◌, ◌<◌, length};
-ghost use Rattle.board.specs.Layout.{word, instructions};
+ghost use Rattle.std.specs.Prelude.{◌≡◌, ◌≤◌, ◌<◌};
 ghost use Rattle.trace.specs.Traces as of;
 ghost use Rattle.trace.specs.Places.{trace_at, Lies};
 
-use folds::index;
+use std::marker::Model;
 
-// A trace: the board's words, the place of its first fetch word, and its length.
-#[derive(Clone, Copy)]
+// A trace: the board's words, the place of its first fetch word, and its length. It lies within the words.
+#[derive(Drop)]
 pub struct Trace<'a> {
-    pub words: &'a [u32],
-    pub start: usize,
-    pub len: usize,
+    words: &'a [u32],
+    start: usize,
+    len: usize,
 }
 
-// The trace of len instructions whose first fetch word is word start.
-pub fn trace_at<'a>(words: &'a [u32], start: usize, len: usize) -> Trace<'a>
-    ensures { (result.words ≡ words.entry) × (result.start ≡ start) × (result.len ≡ len) }
-{
-    Trace { words, start, len }
+impl<'a> Model for Trace<'a> {
+    ghost use Rattle.trace.specs.Traces.{Trace};
+    ghost use Rattle.trace.specs.Places.{trace_at, Lies};
+
+    ghost Value = { Trace };
+
+    ghost view = { λ t. trace_at t.words.now t.start t.len };
+
+    ghost invariant = { λ t. Lies t.words.now t.start t.len };
 }
 
-// The block that instruction p fetches.
-pub fn fetch<'a>(t: Trace<'a>, p: usize) -> u32
-    requires { (Lies t.words.now t.start t.len) × (p < t.len) }
-    ensures { result ≡ of.fetch (trace_at t.entry.words.now t.entry.start t.entry.len) p }
-{
-    fetch_at(t.words, t.start, p)
-}
+impl<'a> Trace<'a> {
+    // The trace of len instructions whose first fetch word is word start.
+    pub fn at(words: &'a [u32], start: usize, len: usize) -> Trace<'a>
+        requires { Lies words.now start len }
+        ensures { result ≡ trace_at words.now start len }
+    {
+        Trace { words, start, len }
+    }
 
-// The work word of instruction p.
-pub fn work<'a>(t: Trace<'a>, p: usize) -> u32
-    requires { (Lies t.words.now t.start t.len) × (p < t.len) }
-    ensures { result ≡ of.work (trace_at t.entry.words.now t.entry.start t.entry.len) p }
-{
-    work_at(t.words, t.start, p)
-}
+    // Where it lies, for proofs alone.
+    pub fn lies(&self)
+        ensures { Lies self.now.words self.now.start self.now.len }
+    {
+        let _words = self.words;
+    }
 
-// The block that instruction p of the trace at start fetches.
-pub fn fetch_word(words: &[u32], start: usize, len: usize, p: usize) -> u32
-    requires { (Lies words.now start len) × (p < len) }
-    ensures { result ≡ of.fetch (trace_at words.now start len) p }
-{
-    fetch(trace_at(words, start, len), p)
-}
+    // The number of its instructions.
+    pub fn len(&self) -> usize
+        ensures { (result ≡ self.now.len) × (result ≤ 1024) }
+    {
+        self.len
+    }
 
-// The work word of instruction p of the trace at start.
-pub fn work_word(words: &[u32], start: usize, len: usize, p: usize) -> u32
-    requires { (Lies words.now start len) × (p < len) }
-    ensures { result ≡ of.work (trace_at words.now start len) p }
-{
-    work(trace_at(words, start, len), p)
-}
+    // The block that instruction p fetches.
+    pub fn fetch(&self, p: usize) -> u32
+        requires { p < self.now.len }
+        ensures { result ≡ of.fetch self.now p }
+    {
+        self.words[self.start + p]
+    }
 
-// Fetch word p from start on.
-fn fetch_at(words: &[u32], start: usize, p: usize) -> u32
-    requires { start + p < length words.now }
-    ensures { result ≡ word words.now (start + p) }
-{
-    words[start + p]
-}
-
-// The work word that belongs to it: the work words stand as many words further on as the board has instructions.
-fn work_at(words: &[u32], start: usize, p: usize) -> u32
-    requires { (3 < length words.now) × (start + instructions words.now + p < length words.now) }
-    ensures { result ≡ word words.now (start + instructions words.now + p) }
-{
-    let g = index(words[3]);
-    words[start + g + p]
+    // The work word of instruction p: the work words stand as many words further on as the board has instructions.
+    pub fn work(&self, p: usize) -> u32
+        requires { p < self.now.len }
+        ensures { result ≡ of.work self.now p }
+    {
+        let instructions = self.words[3] as usize;
+        self.words[self.start + instructions + p]
+    }
 }

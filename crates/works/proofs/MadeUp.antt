@@ -3,12 +3,12 @@
 use Prim.Native.Nat.{ℕ}
 use mathlib.Core.Bool.{Bool, true, false, cond}
 use mathlib.Core.List.{List}
+use Rattle.std.specs.Prelude.{Ok, Err}
 use mathlib.Core.Path.{◌≡◌, refl}
 use native.Mathlib.Omega.{arith}
 use lib.Dec.{ltb}
 use Rattle.board.specs.Layout.{tasks, pass_limit}
-use Rattle.refusals.specs.declared.Verdict.{Verdict}
-use Rattle.refusals.specs.declared.Verdict.TheVariants.{Passed, Refused}
+use Rattle.refusals.specs.Refusals.{Verdict}
 use Rattle.sums.specs.Inputs.{CappedTimes}
 use Rattle.passes.specs.Passes.{passes_needed, settled, first_late}
 use Rattle.passes.proofs.Settling.{settled-length, settled-capped}
@@ -24,10 +24,11 @@ settled-caps b = record { long = omega (arith, settled-length (system-ascending 
 
 pub made_up_from-is : (v : Verdict) (b : List ℕ) (i : ℕ) → made_up_from (answer_by v b) b i ≡ made_up_by v b i
 unfolding settled_answer settled_made_up
-made_up_from-is (Refused number place) b i = refl
-made_up_from-is Passed b i = go _ _ (ltb (pass_limit b) (passes_needed (system b))) (ltb (first_late (system b) (settled (system b))) (tasks b))
+made_up_from-is (Err refusal) b i = refl
+made_up_from-is (Ok _) b i = go _ _ (ltb (pass_limit b) (passes_needed (system b))) (ltb (first_late (system b) (settled (system b))) (tasks b))
   where
-    go : (task p : ℕ) (t late : Bool) → made_up_from (cond t Spent (cond late (Late task p) (Times p))) b i ≡ cond t MadeUp-as-Spent (made_up_at b (settled (system b)) i)
+    go : (task p : ℕ) (t late : Bool)
+        → made_up_from (Ok (cond t Spent (cond late (Late task p) (Times p)))) b i ≡ Ok (cond t MadeUp-as-Spent (made_up_at b (settled (system b)) i))
     go task p true late = refl
     go task p false true = refl
     go task p false false = refl

@@ -7,49 +7,53 @@ ghost use Rattle.passes.specs.Passes.{settled};
 ghost use Rattle.interference.specs.Parts.{listed};
 ghost use Rattle.answers.specs.Answers.{system};
 ghost use Rattle.answers.specs.MakeUp.{made_up_at};
+ghost use Rattle.answers.specs.PartNumbers.{part_number};
 ghost use Rattle.settle.specs.Settled.{AtSettled, WhereSettled};
 ghost use Rattle.works.specs.MadeUp.{made_up_from};
 
-use answers::{Answer, MadeUp};
-use folds::index;
-use interference::{SumParts, six};
+use answers::{Answer, MadeUp, PARTS, Part};
+use board::Board;
+use interference::SumParts;
+use refusals::Refusal;
 
 // What `make_up` answers of a task's number, by the answer that its board's passes gave.
-pub fn made_up(board: &[u32], answer: Answer, scratch: &[u32], task: usize) -> MadeUp
+pub fn made_up(
+    board: &[u32],
+    answer: Result<Answer, Refusal>,
+    scratch: &[u32],
+    task: usize,
+) -> Result<MadeUp, Refusal>
     requires { WhereSettled answer (AtSettled board.now scratch.now × Between 1 (tasks board.now) task) }
     ensures { result ≡ made_up_from answer board.now (task - 1) }
 {
-    match answer {
-        Answer::Times(_) => parts_at(board, scratch, task - 1),
-        Answer::Late(_, _) => parts_at(board, scratch, task - 1),
-        Answer::Spent => MadeUp::Spent,
-        Answer::Refused(number, place) => MadeUp::Refused(number, place),
+    match answer? {
+        Answer::Times(_) | Answer::Late(_, _) => {
+            Ok(parts_at(&Board::of(board), scratch, task - 1))
+        }
+        Answer::Spent => Ok(MadeUp::Spent),
     }
 }
 
 // The parts of task i and the reason, at the settled times.
-fn parts_at(board: &[u32], scratch: &[u32], i: usize) -> MadeUp
+fn parts_at(board: &Board, scratch: &[u32], i: usize) -> MadeUp
     requires { (AtSettled board.now scratch.now) × (i < tasks board.now) }
     ensures { result ≡ made_up_at board.now (settled (system board.now)) i }
 {
-    let n = index(board::fields::tasks(board));
+    let n = board.tasks() as usize;
     let parts = scratch::parts_of(board, n, scratch, &scratch[..n], i);
-    let number = reason_of(parts);
-    MadeUp::Parts(parts, number)
+    MadeUp::Parts(parts, reason_of(parts))
 }
 
-// The number, from 1, of the largest part, the earliest of equals.
-fn reason_of(parts: SumParts) -> u32
-    ensures { result ≡ reason (listed parts) }
+// The largest part, the earliest of equals.
+fn reason_of(parts: SumParts) -> Part
+    ensures { part_number result ≡ reason (listed parts) }
 {
-    let all = six(parts);
-    let mut at: usize = 0;
-    let mut k: usize = 1;
-    while k < 6 {
+    let all = parts.six();
+    let mut at = 0;
+    for k in 1..PARTS.len() {
         if all[at] < all[k] {
             at = k;
         }
-        k += 1;
     }
-    at as u32 + 1
+    PARTS[at]
 }

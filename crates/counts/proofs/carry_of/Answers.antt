@@ -6,6 +6,7 @@ use native.Mathlib.Nat.{zero-mul}
 use native.Mathlib.Omega.{arith}
 use lib.Dec.{eqb}
 use Rattle.folds.specs.Folds.{only_if}
+use Rattle.folds.proofs.Numbers.{only_if-byte}
 use Rattle.bitset.specs.Bits.{bit, word_of}
 use Rattle.bitset.proofs.Words.{bit-none, bit-one_at, word_of-is}
 use Rattle.counts.specs.Carries.{moves}
@@ -18,5 +19,6 @@ shifted k false h =
     word_of-is 64 _ (λ j. eqb j k && false) (omega arith) (λ j l. ap (λ (x : ℕ). bit x j) none ∙ bit-none j ∙ sym (and-false (eqb j k)))
 
 pub returns : goal.returns
-returns c = let mark = c.args.mark in
-    ap (λ (x : ℕ). (x * 2 ^ (mark / 4 % 64)) % 2 ^ 64) (c.wide.ensures.0 ∙ c.one_if.ensures.0) ∙ shifted (mark / 4 % 64) (moves mark) (omega arith)
+returns c =
+    let mark = c.args.mark in
+    ap (λ (x : ℕ). (x * 2 ^ (mark / 4 % 64)) % 2 ^ 64) (c.from.ensures ∙ only_if-byte (moves mark)) ∙ shifted (mark / 4 % 64) (moves mark) (omega arith)

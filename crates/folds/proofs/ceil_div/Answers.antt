@@ -1,5 +1,4 @@
 -- `folds::ceil_div` meets its contract.
-use borrow.Author.Rules.{rules}
 use mathlib.Core.Path.{refl}
 use Rattle.folds.specs.Folds.{ceil_div}
 use Rattle.folds.proofs.Numbers.{ceil_div-self}

@@ -10,21 +10,14 @@ use Rattle.survey.proofs.Evicted.{cores-next, joined-core}
 use Rattle.survey.proofs.keep.Goals as goal
 
 pub returns : goal.returns
-returns c = let write2 = c.write-2 in
-    let write = c.write in
-    let made = c in
-    let joined = c.union-joined in
-    let read = c.read in
-    let x = c.index-x in
-    let core = c.core in
-    let start = c in
+returns c =
     let a = c.args in
     let b = a.board.now in
-    let here = x.ensures.0 ∙ core.ensures.0 in
-    let known : joined.result ≡ words_of 8 (evicted_by b a.i) =
-    joined.ensures ∙ ap (λ w. words_of 8 (λ s. member w s || member a.ecb s)) read.ensures
-    ∙ joined-core b a.i x.result a.cores.now a.ecb c.requires.3 (omega arith) here c.requires.1 in (
+    let x = c.core-x in
+    let known : c.union-joined.result ≡ words_of 8 (evicted_by b a.i) =
+    c.union-joined.ensures ∙ ap (λ w. words_of 8 (λ s. member w s || member a.ecb s)) c.read.ensures
+    ∙ joined-core b a.i x.result a.cores.now a.ecb c.requires.3 (omega arith) x.ensures.0 c.requires.1 in (
       λ h l. records-next a.i c.write-3.ensures (evicting b) c.requires.1 h (λ n. c.requires.2 h (omega (arith, n))),
-      cores-next b a.i x.result a.cores.now _ joined.result here known write.ensures c.requires.3,
-      λ h l. records-next a.i write2.ensures (evicted_by b) known h (λ n. c.requires.4 h (omega (arith, n))),
+      cores-next b a.i x.result a.cores.now _ c.union-joined.result x.ensures.0 known c.write.ensures c.requires.3,
+      λ h l. records-next a.i c.write-2.ensures (evicted_by b) known h (λ n. c.requires.4 h (omega (arith, n))),
     )

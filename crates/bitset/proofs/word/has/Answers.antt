@@ -1,6 +1,5 @@
 -- `bitset::word::has` meets its contract: its test is the definition of `bit`.
 use mathlib.Core.Path.{refl}
-use borrow.Author.Rules.{rules}
 use Rattle.bitset.specs.Bits.{bit}
 use Rattle.bitset.proofs.word.has.Goals as goal
 

@@ -4,7 +4,6 @@ use mathlib.Core.Path.{ap, ◌∙◌}
 use native.Mathlib.Omega.{arith}
 use lib.Bits.{or_lt}
 use lib.Dec.{eqb}
-use borrow.Author.Rules.{rules}
 use Rattle.bitset.specs.Bits.{bit}
 use Rattle.bitset.proofs.Words.{bit-or, one_at, bit-one_at, word_of-is}
 use Rattle.bitset.proofs.word.with.Goals as goal

@@ -6,7 +6,6 @@ use native.Mathlib.Nat.{lt_of_le_of_lt}
 use native.Mathlib.Omega.{arith}
 use lib.Bits.{and_le_r}
 use lib.Dec.{eqb}
-use borrow.Author.Rules.{rules}
 use Rattle.bitset.specs.Bits.{bit}
 use Rattle.bitset.proofs.Words.{bit-and, bit_not, one_at, bit-one_at, word_of-is}
 use Rattle.bitset.proofs.word.without.Goals as goal

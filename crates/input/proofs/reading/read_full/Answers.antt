@@ -7,6 +7,5 @@ pub loop-count-preserved : goal.loop-count-preserved
 loop-count-preserved g c =
     let l = c.loop-count in (
       search rules,
-      search rules,
-      consumes-more _ _ _ l.count (length l.bytes - l.count) c.in-Ok.n l.bytes c.read.new.buf l.invariant.1 c.in-Ok.ensures.bound.0 l.invariant.2 c.in-Ok.ensures.bytes.0,
+      consumes-more _ _ _ l.count (length l.bytes - l.count) c.in-Ok.n l.bytes c.read.new.buf l.invariant.0 c.in-Ok.ensures.bound.0 l.invariant.1 c.in-Ok.ensures.bytes.0,
     )

@@ -1,44 +1,36 @@
 -- `marks::loads::mark_ways` meets its contract.
-use Prim.Native.Nat.{◌+◌, ◌-◌, ◌*◌}
-use mathlib.Core.Path.{ap, ◌∙◌}
-use native.Mathlib.Nat.{le_trans}
-use native.Mathlib.Omega.{arith}
-use lib.ListN.{get_or, set, length-set}
-use Rattle.marks.proofs.Steps.{entries_fit, load-held, load-missed, load-hit, or-one}
+use Rattle.std.proofs.Common.{ℕ, suc, ◌≡◌, ◌+◌, ◌-◌, ◌*◌, ◌/◌, refl, sym, ap, ◌∙◌, arith, get_or}
+use Rattle.std.proofs.Math.ListN.{set}
+use Rattle.entries.specs.Entries.{found}
+use Rattle.entries.proofs.Entries.{position_of-none, position_of-some}
+use Rattle.marks.proofs.Steps.{load-held, load-missed, load-hit, or-one}
 use Rattle.marks.proofs.loads.mark_ways.Goals as goal
 
-pub overflow_mul-s : goal.overflow_mul-s
-overflow_mul-s c = let top = c in
-    record { fits = omega (arith, entries_fit c.args.s c.args.ways c.requires.1 c.requires.0.few) }
-
-pub touch-last-requires : goal.touch-last-requires
-touch-last-requires c = let top = c in
-    (le_trans (entries_fit c.args.s c.args.ways c.requires.1 c.requires.0.few) c.requires.0.entries, omega arith, omega arith)
-
-pub returns-then-last-eq0 : goal.returns-then-last-eq0
-returns-then-last-eq0 c = let touched = c in
+pub returns-in_default : goal.returns-in_default
+returns-in_default c =
     let a = c.args in
-    let last = c.touch-last in
-    let so = load-missed a.base a.ways a.s (a.block + 1) a.e a.held.now a.marks.now (λ z. omega arith) last.result last.ensures.0 c.if-last-eq0.true in (
-      omega (arith, so.0),
-      last.ensures.1 ∙ load-held a.base a.ways a.s (a.block + 1) a.e a.held.now a.marks.now (λ z. omega arith),
+    let space = c.args.space.now in
+    let last = found a.base (a.base + (a.block + 1)) space.held (a.s * a.ways) a.ways in
+    let none : last ≡ 0 = position_of-none last (sym c.touch.ensures.0 ∙ c.in_default.is) in
+    let so = load-missed a.base a.ways a.s (a.block + 1) a.e space.held space.marks (λ z. omega arith) last refl none in (
+      so.0,
+      c.touch.ensures.1 ∙ load-held a.base a.ways a.s (a.block + 1) a.e space.held space.marks (λ z. omega arith),
       so.1,
       omega arith,
     )
 
-pub bounds-marks-i : goal.bounds-marks-i
-bounds-marks-i c = let touched = c in
-    let top = c in
-    omega (arith, c.requires.0.positions, c.touch-last.ensures.2, length-set c.args.marks.now c.args.e (4 * c.args.s + 2))
-
 pub returns : goal.returns
-returns c = let touched = c in
+returns c =
     let a = c.args in
-    let last = c.touch-last in
-    let first = set a.marks.now a.e (4 * a.s + 2) in
-    let so = load-hit a.base a.ways a.s (a.block + 1) a.e a.held.now a.marks.now (λ z. omega arith) last.result last.ensures.0 c.if-last-eq0.false in (
-      omega (arith, so.0),
-      last.ensures.1 ∙ load-held a.base a.ways a.s (a.block + 1) a.e a.held.now a.marks.now (λ z. omega arith),
-      ap (set first (last.result - 1)) (or-one (get_or first (last.result - 1) 0)) ∙ so.1,
+    let space = c.args.space.now in
+    let last = found a.base (a.base + (a.block + 1)) space.held (a.s * a.ways) a.ways in
+    let position = c.in-Some.last in
+    let hit : last ≡ suc position = position_of-some last position (sym c.touch.ensures.0 ∙ c.in-Some.is) in
+    let at : position ≡ last - 1 = omega (arith, hit) in
+    let first = set space.marks a.e (4 * a.s + 2) in
+    let so = load-hit a.base a.ways a.s (a.block + 1) a.e space.held space.marks (λ z. omega arith) last refl (λ z. omega (arith, z, hit)) in (
+      so.0,
+      c.touch.ensures.1 ∙ load-held a.base a.ways a.s (a.block + 1) a.e space.held space.marks (λ z. omega arith),
+      ap (set first position) (or-one (get_or first position 0)) ∙ ap (λ (i : ℕ). set first i (get_or first i 0 / 2 * 2 + 1)) at ∙ so.1,
       omega arith,
     )

@@ -1,30 +1,19 @@
--- A turn writes one word more, of the record at hand.
-use Rattle.std.proofs.Common.{◌≡◌, ◌/◌, ◌%◌, refl, sym, ap, ◌∙◌, get_or, arith}
+-- A turn writes the words of one record more.
+use Rattle.std.proofs.Common.{ℕ, List, sym, ap, ◌∙◌}
 use Rattle.folds.proofs.Lists.{fill_to-none}
-use Rattle.folds.proofs.Loops.{fill_to-turn}
 use Rattle.figures.specs.Figures.{figure_of}
-use Rattle.replies.specs.Records.{record_words, figure_words, table_word}
-use Rattle.replies.proofs.Records.{within-next}
+use Rattle.replies.specs.Records.{figure_words, table_word}
+use Rattle.replies.proofs.Records.{filled_more}
 use Rattle.replies.proofs.table.fill_words.Goals as goal
-use Rattle.replies.proofs.table.fill_words.Goals.{then-at-eq0, else-at-eq0}
 
-pub loop-w-init : goal.loop-w-init
-loop-w-init c = record {
-  in_range = omega arith;
-  at_hand = λ inside. absurd (inside refl);
-  passed = sym (fill_to-none (table_word c.args.board.now) c.args.records.now);
-}
+pub loop-k-init : goal.loop-k-init
+loop-k-init c = sym (fill_to-none (table_word c.args.board.now) c.args.records.now)
 
-pub loop-w-preserved : goal.loop-w-preserved
-loop-w-preserved c =
-    let loop = c.loop-w in
-    let at_hand : c.if-at-eq0.current ≡ figure_words (figure_of c.args.board.now (loop.w / record_words)) =
-    elim c.if-at-eq0.branch [
-      | then-at-eq0 w ↦ w.current-is ∙ w.words_of-current.ensures ∙ ap figure_words w.figure_at.ensures
-      | else-at-eq0 w ↦ w.current-is ∙ loop.invariant.at_hand w.if-at-eq0.false
-    ] in
-    record {
-      in_range = omega arith;
-      at_hand = within-next c.args.board.now c.if-at-eq0.current loop.w at_hand;
-      passed = fill_to-turn (table_word c.args.board.now) c.args.records.now loop.w loop.invariant.passed (ap (λ l. get_or l (loop.w % record_words) 0) at_hand);
-    }
+pub of-requires : goal.of-requires
+of-requires c = (c.requires.0.ready c.loop-k.k c.loop-k-test.true).sound
+
+pub loop-k-preserved : goal.loop-k-preserved
+loop-k-preserved c =
+    let k = c.loop-k.k in
+    filled_more c.args.board.now k c.args.records.now c.loop-k.invariant
+    (c.words_of.ensures ∙ ap figure_words c.figure_at-figure.ensures ∙ ap (λ (b : List ℕ). figure_words (figure_of b k)) c.of.ensures) c.store.ensures

@@ -1,9 +1,0 @@
--- `board::fields::core` meets its contract: a sound board has the word, in its range.
-use native.Mathlib.Omega.{arith}
-use borrow.Author.Rules.{rules}
-use Rattle.board.proofs.fields.core.Goals as goal
-
-pub returns : goal.returns
-returns c = let s = c in
-    let range = c.requires.0.core _ c.requires.1 in
-    (c.task_word.ensures, (omega arith, omega arith), omega arith)

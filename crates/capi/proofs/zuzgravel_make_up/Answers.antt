@@ -1,6 +1,0 @@
--- The words hold the records that the work counted.
-use Rattle.replies.proofs.Records.{filled-records}
-use Rattle.capi.proofs.zuzgravel_make_up.Goals as goal
-
-pub returns-clause-records : goal.returns-clause-records
-returns-clause-records c = filled-records _ _ _ c.make_up-made.ensures.0.0 c.fill_words.ensures

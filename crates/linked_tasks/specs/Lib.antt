@@ -1,0 +1,2 @@
+-- Tasks by their numbers from 1.
+pub mod Numbered
