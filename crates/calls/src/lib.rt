@@ -33,7 +33,7 @@ pub fn analyse(
     // these lines stand in each call with a table: what a closure that lends the buffers leaves in them is not known to who calls it
     let mut figures = FigureWords::empty();
     let answer = works::analyse(board, times, scratch, table.len(), &mut figures);
-    table::fill(board, &figures, table);
+    table::fill(board, figures.records, &figures.words, &figures.sets, table);
     answer
 }
 
@@ -54,7 +54,7 @@ pub fn analyse_in_order<'a>(
 {
     let mut figures = FigureWords::empty();
     let answer = works::analyse_in_order(board, times, scratch, table.len(), &mut figures, order);
-    table::fill(board, &figures, table);
+    table::fill(board, figures.records, &figures.words, &figures.sets, table);
     answer
 }
 
@@ -75,7 +75,7 @@ pub fn make_up(
 {
     let mut figures = FigureWords::empty();
     let made = works::make_up(board, times, scratch, table.len(), &mut figures, task);
-    table::fill(board, &figures, table);
+    table::fill(board, figures.records, &figures.words, &figures.sets, table);
     made
 }
 
@@ -112,7 +112,7 @@ pub fn figures(board: &[u32], table: &mut [Figure]) -> Result<u64, Refusal>
 {
     let mut figures = FigureWords::empty();
     let outcome = works::figures(board, table.len(), &mut figures);
-    table::fill(board, &figures, table);
+    table::fill(board, figures.records, &figures.words, &figures.sets, table);
     outcome
 }
 

@@ -29,7 +29,13 @@ pub fn zuzgravel_figures(board: &[u32], records: &mut [u32], answer: &mut [u64; 
     // these lines stand in each call with records, as in crate `calls`: what a closure that lends the buffers leaves in them is not known to who calls it
     let mut figures = FigureWords::empty();
     let outcome = works::figures(board, records.len() / RECORD_WORDS, &mut figures);
-    fill_words(board, &figures, records);
+    fill_words(
+        board,
+        figures.records,
+        &figures.words,
+        &figures.sets,
+        records,
+    );
     of_outcome(outcome, answer)
 }
 
@@ -65,7 +71,13 @@ pub fn zuzgravel_analyse(
     let mut figures = FigureWords::empty();
     let room = records.len() / RECORD_WORDS;
     let found = works::analyse(board, times, scratch, room, &mut figures);
-    fill_words(board, &figures, records);
+    fill_words(
+        board,
+        figures.records,
+        &figures.words,
+        &figures.sets,
+        records,
+    );
     of_answer(found, answer)
 }
 
@@ -86,7 +98,13 @@ pub fn zuzgravel_analyse_in_order<'a>(
     let mut figures = FigureWords::empty();
     let room = records.len() / RECORD_WORDS;
     let found = works::analyse_in_order(board, times, scratch, room, &mut figures, order);
-    fill_words(board, &figures, records);
+    fill_words(
+        board,
+        figures.records,
+        &figures.words,
+        &figures.sets,
+        records,
+    );
     of_answer(found, answer)
 }
 
@@ -109,6 +127,12 @@ pub fn zuzgravel_make_up(
     let mut figures = FigureWords::empty();
     let room = records.len() / RECORD_WORDS;
     let made = works::make_up(board, times, scratch, room, &mut figures, task);
-    fill_words(board, &figures, records);
+    fill_words(
+        board,
+        figures.records,
+        &figures.words,
+        &figures.sets,
+        records,
+    );
     of_made_up(made, parts, answer)
 }

@@ -19,7 +19,7 @@ use Rattle.passes.specs.Visits.{in_turn}
 use Rattle.checks.specs.CallRefusals.{figures_refusal, overhead_refusal, analyse_refusal, in_order_refusal}
 use Rattle.refusals.specs.declared.Refusal.{Refusal}
 use Rattle.refusals.specs.declared.Row.TheVariants.{HeaderWord, TaskList}
-use Rattle.cases.specs.Refused.{refused_by}
+use Rattle.cases.specs.Refused.{refused_by, RowNumbers, row_numbers}
 use Rattle.answers.specs.Answers.{figures_answer, overhead_answer, settled_answer, analyse_answer, in_order_answer, times_left, times_after}
 use Rattle.input.specs.Input.{words_in, input_refusal}
 use Rattle.text.specs.Text.{digits_of, decimal, line}
@@ -304,6 +304,7 @@ pub examples :
     × (figures_answer (split 257 same_sets) 1 ≡ refused_by HeaderWord 14)
     × (figures_answer (set same_sets 14 1) 1 ≡ refused_by HeaderWord 14)
     × (figures_answer (set (split 4 same_sets) 15 3) 1 ≡ refused_by HeaderWord 15)
+    × RowNumbers
 unfolding ceil_div sum_to max_to count_to any_to first_from tabulate fill_to same_list word_of words_of first_trace first_instruction header_ranges header_ok task_ranges task_ok work_ok refuse_unless first_bad refuse_first refusal_of among without count_in some_in recent hits miss_count next_hits useful_in place_of trace_of loads trace_pd bus_loads trace_md evicts useful useful_at most_useful task_pd task_md evicting figure_of evicted_by reloads γ added_jitter memory_demand own_accesses carry_in core_accesses lower_accesses interference bus_accesses refreshes higher_work task_sum pass in_turn times_by unchanged changes passes_by settled_by first_late figures_refusal overhead_refusal analyse_refusal in_order_refusal figures_answer overhead_answer settled_answer analyse_answer in_order_answer times_left words_in input_refusal digits_of decimal line join_to answer_page board_page page_of
 examples = (
   (refl, refl),
@@ -384,4 +385,5 @@ examples = (
   refl,
   refl,
   refl,
+  row_numbers,
 )

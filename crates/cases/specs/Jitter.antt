@@ -17,7 +17,7 @@ use Rattle.checks.specs.CallRefusals.{weigh_refusal, analyse_refusal, make_up_re
 use Rattle.refusals.specs.declared.Refusal.{Refusal}
 use Rattle.refusals.specs.declared.Row.TheVariants.{GivenTime, TaskWord}
 use Rattle.answers.specs.PartNumbers.{part_of}
-use Rattle.cases.specs.Refused.{refused_by}
+use Rattle.cases.specs.Refused.{refused_by, RowNumbers, row_numbers}
 use Rattle.answers.specs.Answers.{weigh_answer, settled_answer, analyse_answer, times_left, times_after}
 use Rattle.answers.specs.MakeUp.{settled_made_up, make_up_answer}
 use Rattle.text.specs.Text.{digits_of, decimal, line}
@@ -78,5 +78,6 @@ pub jitter_examples :
     × MadeOf (K1_jitter 100 0) 1 5 0 15 10 5 0 3
     × MadeOf (K1_one_core 62 2) 2 4 10 40 0 5 0 3
     × (last_lines (K1_jitter 66 0) 0 (5 ∷ 0 ∷ 15 ∷ 10 ∷ 5 ∷ 0 ∷ []) 3 ≡ late_lines)
+    × RowNumbers
 unfolding ceil_div sum_to max_to count_to any_to first_from first_largest tabulate fill_to same_list first_trace first_instruction header_ranges header_ok task_ranges task_ok work_ok refuse_unless first_bad refuse_first refusal_of trace_of loads trace_pd bus_loads trace_md evicts useful useful_at most_useful task_pd task_md evicting evicted_by reloads γ added_jitter memory_demand own_accesses carry_in core_accesses lower_accesses interference bus_accesses refreshes higher_work task_sum six_parts reason pass times_by unchanged changes passes_by settled_by first_late sum_parts weigh_refusal analyse_refusal make_up_refusal weigh_answer settled_answer analyse_answer times_left settled_made_up make_up_answer total digits_of decimal line part_name
-jitter_examples = ((refl, refl), (refl, refl), (refl, refl), refl, refl, refl, refl, refl, refl, (refl, refl), (refl, refl), (refl, refl), refl, (refl, refl), refl, refl, refl, refl, refl, refl, refl, refl)
+jitter_examples = ((refl, refl), (refl, refl), (refl, refl), refl, refl, refl, refl, refl, refl, (refl, refl), (refl, refl), (refl, refl), refl, (refl, refl), refl, refl, refl, refl, refl, refl, refl, refl, row_numbers)

@@ -17,7 +17,7 @@ use Rattle.checks.specs.CallRefusals.{make_up_refusal}
 use Rattle.refusals.specs.declared.Refusal.{Refusal}
 use Rattle.refusals.specs.declared.Row.TheVariants.{FiguresTable, HeaderWord, Scratch, TaskNumber, TimesBuffer}
 use Rattle.answers.specs.PartNumbers.{part_of}
-use Rattle.cases.specs.Refused.{refused_by}
+use Rattle.cases.specs.Refused.{refused_by, RowNumbers, row_numbers}
 use Rattle.answers.specs.MakeUp.{settled_made_up, make_up_answer}
 use Rattle.input.specs.Input.{words_in, input_refusal}
 use Rattle.input.specs.Argument.{value_to, number_in}
@@ -78,5 +78,6 @@ pub make_up_examples :
     × (make_up_answer K1 2 12 1 2 ≡ refused_by FiguresTable 1)
     × (make_up_answer (set K1 12 0) 1 11 1 3 ≡ refused_by HeaderWord 12)
     × (make_up_page (50 ∷ []) (bytes_of K1) ≡ K1_page)
+    × RowNumbers
 unfolding ceil_div sum_to max_to count_to any_to first_from first_largest tabulate same_list first_trace first_instruction header_ranges header_ok task_ranges task_ok work_ok refuse_unless first_bad refuse_first refusal_of trace_of loads trace_pd bus_loads trace_md evicts useful useful_at most_useful task_pd task_md evicting evicted_by reloads γ added_jitter memory_demand own_accesses carry_in core_accesses lower_accesses interference bus_accesses refreshes higher_work task_sum six_parts reason pass times_by unchanged changes passes_by settled_by sum_parts make_up_refusal settled_made_up make_up_answer words_in input_refusal value_to number_in total digits_of decimal line join_to part_name made_up_page board_made_up make_up_page
-make_up_examples = (refl, refl, refl, refl, refl, refl, refl, refl, refl, refl, refl, refl, refl, refl, refl, refl, refl)
+make_up_examples = (refl, refl, refl, refl, refl, refl, refl, refl, refl, refl, refl, refl, refl, refl, refl, refl, refl, row_numbers)

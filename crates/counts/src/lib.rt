@@ -46,36 +46,15 @@ impl Counts {
         }
     }
 
-    // The useful blocks in the sets of record j of `ecbs`: the sum of their numbers. Both are read where they stand, and nothing is built of them. The words of
-    // the record may be any.
+    // The useful blocks in the sets of record j of `ecbs`: the sum of their numbers.
     pub fn count_in(&self, ecbs: &[u64], j: usize) -> u32
         requires { 8 * j + 7 < length ecbs.now }
         ensures { (Counted self.now.caches self.now.words self.now.planes (record_at 8 ecbs.now j) result) × (result ≤ most_counted) }
     {
-        let mut sum: u32 = 0;
-        for i in (0..self.planes).rev() {
-            sum = 2 * sum + self.common(i, ecbs, j);
-        }
-        sum
+        count_in(&self.words, self.caches, self.planes, ecbs, j)
     }
 
-    // How many numbers are in plane i and in record j of `ecbs`: the numbers below 256 for one cache, and those below 512 for two.
-    fn common(&self, i: usize, ecbs: &[u64], j: usize) -> u32
-        requires { (i < self.now.planes) × (8 * j + 7 < length ecbs.now) }
-        ensures { (result ≡ count_to (λ (s : ℕ). in_plane self.now.caches self.now.words i s && member (record_at 8 ecbs.now j) s) (sets_of self.now.caches))
-            × (result ≤ 512) }
-    {
-        let caches = self.caches;
-        let at = i * caches;
-        let first = count_both(&self.words, at, ecbs, 2 * j);
-        if caches == 1 {
-            return first;
-        }
-        first + count_both(&self.words, at + 1, ecbs, 2 * j + 1)
-    }
-
-    // The number of a mark's set as the mark says: one more, one less, or as it was. There is no branch on the mark, which is a packed
-    // word for that: the first plane has the carry or the borrow by exclusive or, and of one plane no carry is left.
+    // The number of a mark's set as the mark says: one more, one less, or as it was.
     pub fn apply_mark(&mut self, mark: u32)
         requires { (mark < 1024 * self.old.caches)
             × (mark % 4 ≡ 1 → count_of self.old.caches self.old.words 0 self.old.planes (mark / 4) < largest self.old.planes)
@@ -83,39 +62,84 @@ impl Counts {
         ensures { (MarkApplied self.old.caches self.old.words self.old.planes mark self.new.words)
             × (self.new.caches ≡ self.old.caches) × (self.new.planes ≡ self.old.planes) }
     {
-        let at = (mark / 256) as usize;
-        let carry = carry_of(mark);
-        let w = self.words[at];
-        self.words[at] = w ^ carry;
-        if self.planes <= 1 {
+        move_number(&mut self.words, self.caches, self.planes, mark);
+    }
+}
+
+// The useful blocks in the sets of record j of `ecbs`: the sum of their numbers. Both are read where they stand, and nothing is built of them. The words of
+// the record may be any.
+pub fn count_in(live: &[u64], caches: usize, planes: usize, ecbs: &[u64], j: usize) -> u32
+    requires { (1 ≤ caches) × (caches ≤ 2) × (4 * (planes * caches) ≤ length live.now) × (planes ≤ 4) × (8 * j + 7 < length ecbs.now) }
+    ensures { (Counted caches live.now planes (record_at 8 ecbs.now j) result) × (result ≤ most_counted) }
+{
+    let mut sum: u32 = 0;
+    for i in (0..planes).rev() {
+        sum = 2 * sum + common(live, caches, i, ecbs, j);
+    }
+    sum
+}
+
+// How many numbers are in plane i and in record j of `ecbs`: the numbers below 256 for one cache, and those below 512 for two.
+fn common(live: &[u64], caches: usize, i: usize, ecbs: &[u64], j: usize) -> u32
+    requires { (1 ≤ caches) × (caches ≤ 2) × (4 * (i * caches) + 4 * caches ≤ length live.now) × (8 * j + 7 < length ecbs.now) }
+    ensures { (result ≡ count_to (λ (s : ℕ). in_plane caches live.now i s && member (record_at 8 ecbs.now j) s) (sets_of caches)) × (result ≤ 512) }
+{
+    let at = i * caches;
+    let first = count_both(live, at, ecbs, 2 * j);
+    if caches == 1 {
+        return first;
+    }
+    first + count_both(live, at + 1, ecbs, 2 * j + 1)
+}
+
+// The number of a mark's set as the mark says: one more, one less, or as it was.
+pub fn apply_mark(live: &mut [u64], caches: usize, planes: usize, mark: u32)
+    requires { (mark < 1024 * caches) × (1 ≤ planes) × (planes ≤ 4) × (4 * (planes * caches) ≤ length live.old) × (caches ≤ 2)
+        × (mark % 4 ≡ 1 → count_of caches live.old 0 planes (mark / 4) < largest planes)
+        × (mark % 4 ≡ 2 → 1 ≤ count_of caches live.old 0 planes (mark / 4)) }
+    ensures { (MarkApplied caches live.old planes mark live.new) × (length live.new ≡ length live.old) }
+{
+    move_number(live, caches, planes, mark);
+}
+
+// What `apply_mark` does, and of no plane too: there the words have room for one, and a mark moves no number. There is no branch on the mark, which is a packed
+// word for that: the first plane has the carry or the borrow by exclusive or, and of one plane no carry is left.
+fn move_number(live: &mut [u64], caches: usize, planes: usize, mark: u32)
+    requires { (mark < 1024 * caches) × (4 * caches ≤ length live.old) × (planes ≤ 4) × (4 * (planes * caches) ≤ length live.old) × (caches ≤ 2)
+        × (mark % 4 ≡ 1 → count_of caches live.old 0 planes (mark / 4) < largest planes)
+        × (mark % 4 ≡ 2 → 1 ≤ count_of caches live.old 0 planes (mark / 4)) }
+    ensures { (MarkApplied caches live.old planes mark live.new) × (length live.new ≡ length live.old) }
+{
+    let at = (mark / 256) as usize;
+    let carry = carry_of(mark);
+    let w = live[at];
+    live[at] = w ^ carry;
+    if planes <= 1 {
+        return;
+    }
+    let turned = all_if(mark % 4 == 2);
+    carry_on(live, caches, planes, mark, turned, carry & (w ^ turned));
+}
+
+// Carries a mark's carry or borrow on, from the second plane: each plane has it by exclusive or, and hands it on where its bit was 1, or for a borrow 0. Most
+// numbers are 0 or 1, so that most carries end in the first plane.
+fn carry_on(live: &mut [u64], caches: usize, planes: usize, mark: u32, turned: u64, first: u64)
+    requires { (mark < 1024 * caches) × (1 ≤ planes) × (planes ≤ 4) × (4 * (planes * caches) ≤ length live.old) × (caches ≤ 2)
+        × (turned ≡ word_of (λ (t : ℕ). falls mark) 64) }
+    ensures { ((old : List ℕ) → (mark % 4 ≡ 1 → count_of caches old 0 planes (mark / 4) < largest planes)
+        → (mark % 4 ≡ 2 → 1 ≤ count_of caches old 0 planes (mark / 4)) → Rippled caches planes mark (mark / 256) old 1 first live.old
+        → MarkApplied caches old planes mark live.new) × (length live.new ≡ length live.old) }
+{
+    let at = (mark / 256) as usize;
+    let mut carry = first;
+    for i in 1..planes {
+        if carry == 0 {
             return;
         }
-        let turned = all_if(mark % 4 == 2);
-        self.carry_on(mark, turned, carry & (w ^ turned));
-    }
-
-    // Carries a mark's carry or borrow on, from the second plane: each plane has it by exclusive or, and hands it on where its bit was 1, or for a borrow 0.
-    // Most numbers are 0 or 1, so that most carries end in the first plane.
-    fn carry_on(&mut self, mark: u32, turned: u64, first: u64)
-        requires { (mark < 1024 * self.old.caches) × (1 ≤ self.old.planes) × (turned ≡ word_of (λ (t : ℕ). falls mark) 64) }
-        ensures { ((old : List ℕ) → (mark % 4 ≡ 1 → count_of self.old.caches old 0 self.old.planes (mark / 4) < largest self.old.planes)
-            → (mark % 4 ≡ 2 → 1 ≤ count_of self.old.caches old 0 self.old.planes (mark / 4))
-            → Rippled self.old.caches self.old.planes mark (mark / 256) old 1 first self.old.words
-            → MarkApplied self.old.caches old self.old.planes mark self.new.words)
-            × (self.new.caches ≡ self.old.caches) × (self.new.planes ≡ self.old.planes) }
-    {
-        let at = (mark / 256) as usize;
-        let caches = self.caches;
-        let mut carry = first;
-        for i in 1..self.planes {
-            if carry == 0 {
-                return;
-            }
-            let k = 4 * (i * caches) + at;
-            let w = self.words[k];
-            self.words[k] = w ^ carry;
-            carry = carry & (w ^ turned);
-        }
+        let k = 4 * (i * caches) + at;
+        let w = live[k];
+        live[k] = w ^ carry;
+        carry = carry & (w ^ turned);
     }
 }
 

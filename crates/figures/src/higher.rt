@@ -1,5 +1,6 @@
 // The higher tasks on the core of a task, as a list.
-ghost use Rattle.std.specs.Prelude.{◌≡◌, ℕ, ◌+◌, ◌<◌, List, [], ◌∷◌, ◌++◌, length};
+ghost use Rattle.std.specs.Prelude.{◌≡◌, ◌≤◌, ◌<◌, [], take};
+ghost use Rattle.board.specs.Layout.{most_tasks};
 ghost use Rattle.figures.specs.Ready.{Ready};
 ghost use Rattle.figures.specs.Rows.{same_core};
 ghost use Rattle.figures.specs.Higher.{Higher};
@@ -32,12 +33,16 @@ impl HigherTasks {
         ensures { Higher board.now i result }
     {
         let mut higher = HigherTasks::none();
-        for j in (0..i).rev() {
-            if on_core_of(board, i, j) {
-                higher.push(j);
-            }
-        }
+        higher.list(board, i);
         higher
+    }
+
+    // Lists those above task i in place of the ones that were listed, so that one list serves a walk over all tasks.
+    pub fn list(&mut self, board: &Board, i: usize)
+        requires { Ready board.now i }
+        ensures { Higher board.now i self.new }
+    {
+        self.count = put_above(board, i, &mut self.tasks);
     }
 
     pub fn tasks(&self) -> &[usize]
@@ -55,15 +60,22 @@ impl HigherTasks {
             count: 0,
         }
     }
+}
 
-    // Lists one more.
-    fn push(&mut self, j: usize)
-        requires { length self.old < 64 }
-        ensures { self.new ≡ self.old ++ j ∷ [] }
-    {
-        self.tasks[self.count] = j;
-        self.count += 1;
+// Puts those above task i at the start of the array, and answers how many they are. They are counted beside it, since a count in one struct with it would be
+// stored and read again for each of them.
+fn put_above(board: &Board, i: usize, tasks: &mut [usize; MOST_TASKS]) -> usize
+    requires { Ready board.now i }
+    ensures { (Higher board.now i (take result tasks.new)) × (result ≤ most_tasks) }
+{
+    let mut count = 0;
+    for j in (0..i).rev() {
+        if on_core_of(board, i, j) {
+            tasks[count] = j;
+            count += 1;
+        }
     }
+    count
 }
 
 // Whether tasks i and j are on one core.

@@ -50,20 +50,33 @@ impl FigureWords {
         }
     }
 
-    // The figures of task k, from the words and the sets that hold them.
+    // The figures of task k.
     pub fn figure_at(&self, board: &Board, k: usize) -> Figure
         requires { (Fillable board.now self.now.records self.now.words self.now.sets) × (k < self.now.records) }
         ensures { result ≡ figure_of board.now k }
     {
-        let n = self.records;
-        Figure {
-            core: board.core(k),
-            period: board.period(k),
-            deadline: board.deadline(k),
-            pd: self.words[2 * n + k],
-            md: self.words[3 * n + k],
-            ecb: read(&self.sets, 2 * k),
-            data_ecb: read(&self.sets, 2 * k + 1),
-        }
+        figure_at(board, self.records, &self.words, &self.sets, k)
+    }
+}
+
+// The figures of task k, from the words and the sets that hold them.
+pub fn figure_at(
+    board: &Board,
+    n: usize,
+    words: &[u32],
+    sets: &[u64; ECB_WORDS],
+    k: usize,
+) -> Figure
+    requires { (Fillable board.now n words.now sets.now) × (k < n) }
+    ensures { result ≡ figure_of board.now k }
+{
+    Figure {
+        core: board.core(k),
+        period: board.period(k),
+        deadline: board.deadline(k),
+        pd: words[2 * n + k],
+        md: words[3 * n + k],
+        ecb: read(sets, 2 * k),
+        data_ecb: read(sets, 2 * k + 1),
     }
 }

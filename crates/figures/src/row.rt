@@ -27,7 +27,7 @@ pub fn place(n: usize, i: usize) -> usize
 pub struct Preempted<'a> {
     pub board: &'a Board<'a>,
     pub index: usize,
-    pub higher: HigherTasks,
+    pub higher: &'a HigherTasks,
     pub evicted: &'a [u64; ECB_WORDS],
     pub ghost ready: { Ready board.now index },
     pub ghost held: { Evicted board.now index evicted.now },
@@ -37,12 +37,13 @@ impl<'a> Preempted<'a> {
     // Raises the row by a point of the task, for each task j above it on its core: by the useful blocks of the point in the sets evicted by j. `live` has their
     // numbers. The lowest task is first: the higher ones on the core evict no more than it.
     pub fn raise(&self, live: &Counts, row: &mut [u32; MOST_TASKS])
-        requires { Higher self.now.board.now self.now.index self.now.higher }
+        requires { Higher self.now.board.now self.now.index self.now.higher.now }
         ensures { row.new ≡ raised (on_core_of self.now.board.now self.now.index
             (λ (j : ℕ). count_by live.now.caches live.now.words live.now.planes (evicted_by self.now.board.now j))) self.now.index row.old }
     {
         let mut most = MOST_COUNTED;
-        for j in self.higher.tasks() {
+        let higher = self.higher;
+        for j in higher.tasks() {
             most = raise_word(row, *j, most, live, self.evicted);
         }
     }

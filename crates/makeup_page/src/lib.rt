@@ -10,7 +10,7 @@ ghost use Rattle.makeup_page.specs.MakeUpPage.{board_made_up, make_up_page};
 
 use board::{MOST_SCRATCH, MOST_TASKS};
 use input::argument::number_in;
-use page::boards::{BoardPage, of_input, run_with};
+use page::boards::{BoardPage, InputPage, of_input, run_with};
 use parts_page::made_up_page;
 use std::io::{Error, Read, Write};
 use text::{Page, put_page};
@@ -35,6 +35,13 @@ impl BoardPage<MOST> for MadeUp<'_> {
         let mut page = Page::new();
         made_up_page(&mut page, board, task, made);
         page
+    }
+}
+
+impl InputPage<MOST> for MadeUp<'_> {
+    #[tactic(auto, unfolding(crate::specs::MakeUpPage::make_up_page))]
+    fn page_of(&self, bytes: &[u8], out: &mut [u8; MOST]) -> usize {
+        page_of(self.argument, bytes, out)
     }
 }
 

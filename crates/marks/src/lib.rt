@@ -16,14 +16,14 @@ use accesses::{mark_data, mark_load};
 use bitset::SET_WORDS;
 use board::Board;
 use entries::Workspace;
-use trace::Trace;
+use trace::BoardTrace;
 use trace::cache::Caches;
 
 // MD of a trace of a board with a cache or two: its loads that miss, and its writes. The places of all blocks that it touches are added to `ecb`, and each of
 // its positions is marked. The blocks held may be what earlier traces left, since `base` is another for each trace.
 pub fn mark_trace(
     board: &Board,
-    trace: &Trace,
+    trace: &BoardTrace,
     base: u32,
     space: &mut Workspace,
     ecb: &mut [u64; SET_WORDS],

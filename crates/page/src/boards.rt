@@ -20,9 +20,18 @@ pub trait BoardPage<const N: usize> {
         ensures { result.items ≡ shown self.now board.now };
 }
 
+// What puts the page of any input at the start of out, and answers its length.
+pub trait InputPage<const N: usize>: BoardPage<N> {
+    ghost use Rattle.std.specs.Prelude.{take};
+
+    fn page_of(&self, bytes: &[u8], out: &mut [u8; N]) -> usize
+        ensures out_after { take result out.new ≡ input_page (Self.shown self.now) bytes.now }
+        ensures fits { result ≤ N };
+}
+
 // Reads the input until its end, a failed read or 65,537 bytes, and writes its page, which has room for the line of a refusal. Answers whether no read failed; a
 // failed write is the error.
-pub fn run_with<const N: usize, P: BoardPage<N>, R: Read, W: Write>(
+pub fn run_with<const N: usize, P: InputPage<N>, R: Read, W: Write>(
     pages: &P,
     from: &mut R,
     to: &mut W,
@@ -32,8 +41,9 @@ pub fn run_with<const N: usize, P: BoardPage<N>, R: Read, W: Write>(
 {
     let mut bytes = [0u8; 65537];
     let reading = read_full(from, &mut bytes);
-    let page = of_input(pages, &bytes[..reading.count]);
-    to.write_all(page.as_slice())?;
+    let mut out = [0u8; N];
+    let size = pages.page_of(&bytes[..reading.count], &mut out);
+    to.write_all(&out[..size])?;
     Ok(reading.whole)
 }
 

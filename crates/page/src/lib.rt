@@ -10,7 +10,7 @@ ghost use Rattle.page.specs.Page.{board_page, page_of, Answered};
 
 use answer_page::answer_page;
 use board::{MOST_SCRATCH, MOST_TASKS};
-use boards::{BoardPage, of_input, run_with};
+use boards::{BoardPage, InputPage, of_input, run_with};
 use std::io::{Error, Read, Write};
 use text::{Page, put_page};
 
@@ -30,6 +30,13 @@ impl BoardPage<MOST> for Times {
         let mut page = Page::new();
         answer_page(&mut page, board, &times, answer);
         page
+    }
+}
+
+impl InputPage<MOST> for Times {
+    #[tactic(auto, unfolding(crate::specs::Page::page_of))]
+    fn page_of(&self, bytes: &[u8], out: &mut [u8; MOST]) -> usize {
+        page_of(bytes, out)
     }
 }
 

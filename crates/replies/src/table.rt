@@ -6,20 +6,25 @@ ghost use Rattle.figures.specs.Survey.{Fillable};
 ghost use Rattle.replies.specs.Records.{record_words, low_half, high_half, ecb_halves, figure_words, table_word};
 
 use board::Board;
-use figures::{Figure, FigureWords};
+use figures::{ECB_WORDS, Figure, figure_at};
 
 // The words of a record.
 pub const RECORD_WORDS: usize = 21;
 
-// Fills as many records as `figures` has with the figures of the first tasks. The words past them stay as they are.
-pub fn fill_words(board: &[u32], figures: &FigureWords, records: &mut [u32])
-    requires { (Fillable board.now figures.now.records figures.now.words figures.now.sets)
-        × (record_words * figures.now.records ≤ length records.old) }
-    ensures { records.new ≡ fill_to (table_word board.now) (record_words * figures.now.records) records.old }
+// Fills the first n records with the figures of the tasks below n. The words past them stay as they are.
+pub fn fill_words(
+    board: &[u32],
+    n: usize,
+    words: &[u32],
+    sets: &[u64; ECB_WORDS],
+    records: &mut [u32],
+)
+    requires { (Fillable board.now n words.now sets.now) × (record_words * n ≤ length records.old) }
+    ensures { records.new ≡ fill_to (table_word board.now) (record_words * n) records.old }
 {
     // of a board that was refused there is no record, so that only a turn knows that it passed
-    for k in 0..figures.records {
-        let figure = figures.figure_at(&Board::of(board), k);
+    for k in 0..n {
+        let figure = figure_at(&Board::of(board), n, words, sets, k);
         store(records, k, words_of(figure));
     }
 }

@@ -18,7 +18,7 @@ use marks::mark_trace;
 use points::raise_points;
 use trace::cursor::Cursor;
 use trace::demand::Demand;
-use trace::{Trace, demand};
+use trace::{BoardTrace, demand};
 
 // PD and MD of one trace of a task. Its evicting cache blocks are added to `ecb`, and the row, where there is one, is raised by its useful blocks. Without a
 // cache nothing is evicted or useful. `space` is room to work in, which holds no block of this trace or of a later one. The higher tasks are listed
@@ -31,12 +31,12 @@ pub fn scan_trace(
     space: &mut Workspace,
 ) -> Demand
     requires { (Starts task.now.board.now at.trace at.start) × (AllEarlier (base_of at.trace) space.old.held)
-        × ((l : List ℕ) → row.old ≡ Some l → 1 ≤ cache_count task.now.board.now → Higher task.now.board.now task.now.index task.now.higher) }
+        × ((l : List ℕ) → row.old ≡ Some l → 1 ≤ cache_count task.now.board.now → Higher task.now.board.now task.now.index task.now.higher.now) }
     ensures { Found task.now.board.now task.now.index at.trace result.pd result.md ecb.old ecb.new row.old row.new space.new.held }
 {
     let board = task.board;
     let len = board.trace_length(at.trace) as usize;
-    let trace = Trace::at(board.words(), at.start, len);
+    let trace = BoardTrace::at(board.words(), at.start, len);
     if board.cache_count() == 0 {
         return demand::uncached(board, &trace);
     }

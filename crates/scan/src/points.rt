@@ -23,13 +23,14 @@ const TAKES: u32 = 2;
 // counted, it has the most useful blocks of all points since. `live` has the numbers of the point at hand.
 pub fn raise_points(task: &Preempted, len: usize, marks: &[u32], row: &mut [u32; MOST_TASKS])
     requires { (Levels (cache_count task.now.board.now) marks.now (2 * len) (ways task.now.board.now)) × (1 ≤ cache_count task.now.board.now)
-        × (len ≤ 1024) × (2 * len ≤ length marks.now) × Higher task.now.board.now task.now.index task.now.higher }
+        × (len ≤ 1024) × (2 * len ≤ length marks.now) × Higher task.now.board.now task.now.index task.now.higher.now }
     ensures { (f : ℕ → ℕ → ℕ) → Turning (cache_count task.now.board.now) f marks.now (2 * len)
         → ((s : ℕ) → s < sets_of (cache_count task.now.board.now) → f 0 s ≡ 0)
         → row.new ≡ raised (on_core_of task.now.board.now task.now.index
         (λ (j : ℕ). max_to (at_point (cache_count task.now.board.now) f (evicted_by task.now.board.now j)) len)) task.now.index row.old }
 {
-    let higher = task.higher.tasks();
+    let listed = task.higher;
+    let higher = listed.tasks();
     let above = higher.len();
     if above == 0 {
         return;

@@ -2,7 +2,7 @@
 // itself answers is read from the answer and the scratch afterwards.
 #![tactic(auto)]
 
-ghost use Rattle.std.specs.Prelude.{◌≡◌, length};
+ghost use Rattle.std.specs.Prelude.{ℕ, ◌≡◌, ◌≤◌, ◌<◌, length, get_or};
 ghost use Rattle.board.specs.Layout.{tasks};
 ghost use Rattle.scratch.specs.Scratch.{ScratchRoom};
 ghost use Rattle.checks.specs.Accepted.{Analysable};
@@ -12,7 +12,7 @@ ghost use Rattle.settle.specs.Settled.{Settled};
 use answers::Answer;
 use answers::taken::answer;
 use board::Board;
-use figures::FigureWords;
+use figures::{FigureWords, MOST_FIGURE_WORDS};
 use refusals::{Refusal, Verdict};
 use settling::PassRule;
 
@@ -43,8 +43,17 @@ fn begin(board: &Board, n: usize, scratch: &mut [u32], figures: &mut FigureWords
     ensures { Begun board.now n scratch.old scratch.new figures.new }
 {
     scratch::prepare(board, n, scratch, &mut figures.sets);
-    let first = 2 * n;
-    let end = 4 * n;
-    figures.words[first..end].copy_from_slice(&scratch[first..end]);
+    copy(2 * n, 4 * n, scratch, &mut figures.words);
     figures.records = n;
+}
+
+// Copies the words from `first` to before `end` to the same places. They are stored one by one: `copy_from_slice` would have the library for C call `memmove`
+// too, which it does not need from outside.
+fn copy(first: usize, end: usize, from: &[u32], to: &mut [u32; MOST_FIGURE_WORDS])
+    requires { (end ≤ length from.now) × (end ≤ 256) }
+    ensures { (k : ℕ) → first ≤ k → k < end → get_or to.new k 0 ≡ get_or from.now k 0 }
+{
+    for k in first..end {
+        to[k] = from[k];
+    }
 }

@@ -1,5 +1,6 @@
 // The first late task, and the settled times for the caller.
-ghost use Rattle.std.specs.Prelude.{◌≡◌, ◌≤◌, length};
+ghost use Rattle.std.specs.Prelude.{◌≡◌, ◌≤◌, length, get_or};
+ghost use Rattle.folds.specs.Folds.{fill_to};
 ghost use Rattle.board.specs.Layout.{tasks};
 ghost use Rattle.one_pass.specs.System.{system};
 ghost use Rattle.settling.specs.Delivered.{late_task, delivered};
@@ -22,7 +23,17 @@ pub fn deliver(board: &Board, n: usize, settled: &[u32], times: &mut [u32]) -> O
 {
     let late = first_late(board, n, settled);
     if late.is_none() {
-        times[..n].copy_from_slice(&settled[..n]);
+        copy(n, settled, times);
     }
     late
+}
+
+// Copies the first n words. They are stored one by one: `copy_from_slice` would have the library for C call `memmove` too, which it does not need from outside.
+fn copy(n: usize, from: &[u32], to: &mut [u32])
+    requires { (n ≤ length from.now) × (n ≤ length to.old) }
+    ensures { to.new ≡ fill_to (λ k. get_or from.now k 0) n to.old }
+{
+    for k in 0..n {
+        to[k] = from[k];
+    }
 }

@@ -50,9 +50,10 @@ pub fn survey(
         held: [0; HELD_WORDS],
         marks: [0; MARK_WORDS],
     };
+    let mut higher = HigherTasks::none();
     let mut at = Cursor::first(board);
     for i in 0..count {
-        let found = survey_task(board, i, at, &evicted, &mut row, &mut space);
+        let found = survey_task(board, i, at, &evicted, &mut row, &mut higher, &mut space);
         keep(board, i, found.ecb, sets, &mut cores, &mut evicted);
         store(words, n, i, &found, &row);
         at = found.next;
@@ -88,6 +89,7 @@ fn survey_task(
     first: Cursor,
     evicted: &[u64; ECB_WORDS],
     row: &mut Option<[u32; MOST_TASKS]>,
+    higher: &mut HigherTasks,
     space: &mut Workspace,
 ) -> Found
     requires { (Ready board.now i) × (At board.now i 0 first.trace first.start) × (Evicted board.now i evicted.now)
@@ -98,10 +100,11 @@ fn survey_task(
         × (AllEarlier (base_of result.next.trace) space.new.held) }
 {
     let wanted = row.is_some() & (1 <= board.cache_count());
+    list_higher(board, i, wanted, higher);
     let task = Preempted {
         board,
         index: i,
-        higher: higher_tasks(board, i, wanted),
+        higher,
         evicted,
     };
     let mut at = first;
@@ -122,15 +125,13 @@ fn survey_task(
     }
 }
 
-// The higher tasks of task i, listed where they are wanted.
-fn higher_tasks(board: &Board, i: usize, wanted: bool) -> HigherTasks
+// Lists the higher tasks of task i, where they are wanted.
+fn list_higher(board: &Board, i: usize, wanted: bool, higher: &mut HigherTasks)
     requires { Ready board.now i }
-    ensures { wanted ≡ true → Higher board.now i result }
+    ensures { wanted ≡ true → Higher board.now i higher.new }
 {
     if wanted {
-        HigherTasks::of(board, i)
-    } else {
-        HigherTasks::none()
+        higher.list(board, i);
     }
 }
 

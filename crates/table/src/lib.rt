@@ -7,15 +7,15 @@ ghost use Rattle.figures.specs.Figures.{figure_of};
 ghost use Rattle.figures.specs.Survey.{Fillable};
 
 use board::Board;
-use figures::{Figure, FigureWords};
+use figures::{ECB_WORDS, Figure, figure_at};
 
-// Writes the figures of the first tasks to as many records of the table as `figures` has. The later records are as they were.
-pub fn fill(board: &[u32], figures: &FigureWords, table: &mut [Figure])
-    requires { (Fillable board.now figures.now.records figures.now.words figures.now.sets) × (figures.now.records ≤ length table.old) }
-    ensures { table.new ≡ fill_to (figure_of board.now) figures.now.records table.old }
+// Writes the figures of the first n tasks to the first n records of the table. The later records are as they were.
+pub fn fill(board: &[u32], n: usize, words: &[u32], sets: &[u64; ECB_WORDS], table: &mut [Figure])
+    requires { (Fillable board.now n words.now sets.now) × (n ≤ length table.old) }
+    ensures { table.new ≡ fill_to (figure_of board.now) n table.old }
 {
     // of a board that was refused there is no record, so that only a turn knows that it passed
-    for k in 0..figures.records {
-        table[k] = figures.figure_at(&Board::of(board), k);
+    for k in 0..n {
+        table[k] = figure_at(&Board::of(board), n, words, sets, k);
     }
 }

@@ -9,14 +9,15 @@ use native.Mathlib.Omega.{arith}
 use lib.ListN.{length, get_or, take, drop, set, length-append}
 use lib.Seq.{sets-eq, length-sets, length-take-le, take-suc, take_at, drop_at}
 use Rattle.io.specs.Counts.{IsPrefixLen}
+use Rattle.text.specs.Text.{line}
 use Rattle.text.specs.Buffer.{laid, Put}
 
-laid-append : (xs ys : List ℕ) (at : ℕ) (old : List ℕ) → laid ys (at + length xs) (laid xs at old) ≡ laid (xs ++ ys) at old
+pub laid-append : (xs ys : List ℕ) (at : ℕ) (old : List ℕ) → laid ys (at + length xs) (laid xs at old) ≡ laid (xs ++ ys) at old
 unfolding laid
 laid-append [] ys at old = rw add-zero
 laid-append (x ∷ xs) ys at old = rw (add-suc, ← suc-add) (laid-append xs ys (suc at) (set old at x))
 
-length-laid : (xs : List ℕ) (at : ℕ) (old : List ℕ) → length (laid xs at old) ≡ length old
+pub length-laid : (xs : List ℕ) (at : ℕ) (old : List ℕ) → length (laid xs at old) ≡ length old
 unfolding laid
 length-laid xs at old = length-sets old at xs
 
@@ -44,6 +45,18 @@ pub put_next : (text : List ℕ) (i : ℕ) {old mid new : List ℕ} {at next end
     → Put old at (take i text) mid next → Put mid next (get_or text i 0 ∷ []) new end → Put old at (take (i + 1) text) new end
 put_next text i l p q = rw (add-one, take-suc text i 0 l) (put_then p q)
 
+-- the place after the bytes counts bytes at the start of the buffer
+pub put-counts : {old new bytes : List ℕ} {at next : ℕ} → Put old at bytes new next → IsPrefixLen next new
+put-counts {old} {new} {bytes} {at} {next} p =
+    let size : length new ≡ length old = ap length p.buffer ∙ length-laid bytes at old in
+    let room : next ≤ length new = omega (arith, p.fits) in
+    (room, sym (length-take-le next new room))
+
+-- the last field of a line
+pub put_last : (field : List ℕ) {old new : List ℕ} {at end : ℕ} → Put old at (field ++ (10 ∷ [])) new end → Put old at (line (field ∷ [])) new end
+unfolding line
+put_last field p = p
+
 -- bytes laid in at the start: before what the buffer has after them
 laid_first : (old bytes : List ℕ) → length bytes ≤ length old → laid bytes 0 old ≡ bytes ++ drop (length bytes) old
 unfolding laid
@@ -65,13 +78,6 @@ module _ {old new bytes : List ℕ} {next : ℕ} (p : Put old 0 bytes new next) 
 
   whole : new ≡ bytes ++ drop (length bytes) old
   whole = p.buffer ∙ laid_first old bytes (omega (arith, p.fits, p.place))
-
-  -- the place after the bytes counts bytes at the start of the buffer
-  pub put-counts : IsPrefixLen next new
-  put-counts =
-      let size : length new ≡ length old = ap length p.buffer ∙ length-laid bytes 0 old in
-      let room : next ≤ length new = omega (arith, p.fits) in
-      (room, sym (length-take-le next new room))
 
   -- the bytes are what the buffer begins with, and the rest is as it was
   pub put-take : take next new ≡ bytes

@@ -5,11 +5,11 @@ ghost use Rattle.board.specs.Layout.{memory};
 ghost use Rattle.trace.specs.Traces.{trace_pd, trace_md};
 ghost use Rattle.trace.specs.Positions.{accesses};
 
-use super::Trace;
+use super::BoardTrace;
 use board::{Board, FIRST_DATA_BLOCK, Memory, work};
 
 // PD: the cycles without memory.
-pub fn pd(trace: &Trace) -> u32
+pub fn pd(trace: &BoardTrace) -> u32
     ensures { result ≡ trace_pd trace.now }
 {
     let mut sum: u32 = 0;
@@ -27,7 +27,7 @@ pub struct Demand {
 }
 
 // PD and MD without a cache, in one scan: with memory 0 nothing is held, and with memory 1 the blocks of the scratchpad.
-pub fn uncached(board: &Board, trace: &Trace) -> Demand
+pub fn uncached(board: &Board, trace: &BoardTrace) -> Demand
     requires { (trace.now.words ≡ board.now) × (memory board.now ≤ 1) }
     ensures { (result.md ≡ trace_md trace.now) × (result.pd ≡ trace_pd trace.now) }
 {
@@ -44,7 +44,7 @@ pub fn uncached(board: &Board, trace: &Trace) -> Demand
 }
 
 // PD, and the bus accesses without a cache: fetches of blocks from low on, reads of blocks from high on, and writes.
-fn demands_past(trace: &Trace, low: u32, high: u32) -> Demand
+fn demands_past(trace: &BoardTrace, low: u32, high: u32) -> Demand
     ensures { (result.md ≡ sum_to (accesses trace.now low high) trace.now.len) × (result.pd ≡ trace_pd trace.now) }
 {
     let mut pd: u32 = 0;
@@ -58,7 +58,7 @@ fn demands_past(trace: &Trace, low: u32, high: u32) -> Demand
 
 // The bus accesses of instruction p. Its kind chooses what its data access counts, and no arm has work of its own, so that there is no branch on it and the sum
 // over a trace takes several instructions at a time.
-fn accesses_by(trace: &Trace, p: usize, low: u32, high: u32) -> u32
+fn accesses_by(trace: &BoardTrace, p: usize, low: u32, high: u32) -> u32
     requires { p < trace.now.len }
     ensures { (result ≡ accesses trace.now low high p) × (result ≤ 3) }
 {

@@ -11,46 +11,61 @@ ghost use Rattle.trace.specs.Places.{trace_at, Lies};
 
 use std::marker::Model;
 
-// A trace: the board's words, the place of its first fetch word, and its length. It lies within the words.
-#[derive(Drop)]
+// A trace: the board's words, the place of its first fetch word, and its length.
+#[derive(Clone, Copy, Debug, PartialEq, Eq)]
 pub struct Trace<'a> {
-    words: &'a [u32],
-    start: usize,
-    len: usize,
+    pub words: &'a [u32],
+    pub start: usize,
+    pub len: usize,
 }
 
-impl<'a> Model for Trace<'a> {
+// The trace of len instructions whose first fetch word is word start.
+pub fn trace_at<'a>(words: &'a [u32], start: usize, len: usize) -> Trace<'a>
+    ensures { (result.words ≡ words.entry) × (result.start ≡ start) × (result.len ≡ len) }
+{
+    Trace { words, start, len }
+}
+
+// A trace that lies within the board's words.
+#[derive(Drop)]
+pub struct BoardTrace<'a> {
+    trace: Trace<'a>,
+}
+
+impl<'a> Model for BoardTrace<'a> {
     ghost use Rattle.trace.specs.Traces.{Trace};
     ghost use Rattle.trace.specs.Places.{trace_at, Lies};
 
     ghost Value = { Trace };
 
-    ghost view = { λ t. trace_at t.words.now t.start t.len };
+    ghost view = { λ t. trace_at t.trace.words.now t.trace.start t.trace.len };
 
-    ghost invariant = { λ t. Lies t.words.now t.start t.len };
+    ghost invariant = { λ t. Lies t.trace.words.now t.trace.start t.trace.len };
 }
 
-impl<'a> Trace<'a> {
+impl<'a> BoardTrace<'a> {
     // The trace of len instructions whose first fetch word is word start.
-    pub fn at(words: &'a [u32], start: usize, len: usize) -> Trace<'a>
+    pub fn at(words: &'a [u32], start: usize, len: usize) -> BoardTrace<'a>
         requires { Lies words.now start len }
         ensures { result ≡ trace_at words.now start len }
     {
-        Trace { words, start, len }
+        BoardTrace {
+            trace: trace_at(words, start, len),
+        }
     }
 
     // Where it lies, for proofs alone.
     pub fn lies(&self)
         ensures { Lies self.now.words self.now.start self.now.len }
     {
-        let _words = self.words;
+        let _trace = self.trace;
     }
 
     // The number of its instructions.
     pub fn len(&self) -> usize
         ensures { (result ≡ self.now.len) × (result ≤ 1024) }
     {
-        self.len
+        self.trace.len
     }
 
     // The block that instruction p fetches.
@@ -58,7 +73,7 @@ impl<'a> Trace<'a> {
         requires { p < self.now.len }
         ensures { result ≡ of.fetch self.now p }
     {
-        self.words[self.start + p]
+        self.trace.words[self.trace.start + p]
     }
 
     // The work word of instruction p: the work words stand as many words further on as the board has instructions.
@@ -66,7 +81,7 @@ impl<'a> Trace<'a> {
         requires { p < self.now.len }
         ensures { result ≡ of.work self.now p }
     {
-        let instructions = self.words[3] as usize;
-        self.words[self.start + instructions + p]
+        let instructions = self.trace.words[3] as usize;
+        self.trace.words[self.trace.start + instructions + p]
     }
 }

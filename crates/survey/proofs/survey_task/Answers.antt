@@ -21,7 +21,7 @@ scan_trace-demand-requires c = (
   λ l is some.
       let row = c.is_some.ensures ∙ row-was _ c.args.row.now _ c.loop-r.invariant.1.higher l is in
       let cached : leb 1 c.cache_count.result ≡ true = le-leb 1 c.cache_count.result (omega (arith, some, c.cache_count.ensures.0)) in
-      c.higher_tasks.ensures (ap₂ ◌&&◌ row cached),
+      c.list_higher.ensures (ap₂ ◌&&◌ row cached),
 )
 
 pub next-at-requires : goal.next-at-requires

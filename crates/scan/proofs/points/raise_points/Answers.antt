@@ -20,10 +20,10 @@ use Rattle.scan.proofs.points.raise_points.Goals.{then-fresh-lost, else-fresh-lo
 pub returns-then-above-eq0 : goal.returns-then-above-eq0
 returns-then-above-eq0 c f turning first =
     let t = c.args.task.now in
-    let empty : length t.higher ≡ 0 = omega (arith, ap length c.tasks-higher.ensures, c.if-above-eq0.true) in
+    let empty : length t.higher.now ≡ 0 = omega (arith, ap length c.tasks-higher.ensures, c.if-above-eq0.true) in
     raised-none _ t.index c.args.row.now
     (λ j h. ap (λ (same : Bool). only_if same (max_to (at_point (cache_count t.board.now) f (evicted_by t.board.now j)) c.args.len))
-    (higher-none t.board.now t.index t.higher c.requires.4 empty j h))
+    (higher-none t.board.now t.index t.higher.now c.requires.4 empty j h))
 
 -- the numbers at the start are 0
 none : (c C p P : ℕ) (words : List ℕ) → c ≡ C → p ≡ P → ((s : ℕ) → s < sets_of c → count_of c words 0 p s ≡ 0) → (s : ℕ) → s < sets_of C → count_of C words 0 P s ≡ 0

@@ -1,8 +1,8 @@
--- `FigureWords::figure_at` meets its contract, field by field.
+-- `figures::figure_at` meets its contract, field by field.
 use mathlib.Core.Path.{◌∙◌}
 use Rattle.bitset.proofs.Buffers.{first-half, second-half}
 use Rattle.figures.specs.Figures.{evicting, figure_of}
-use Rattle.figures.proofs.FigureWords.figure_at.Goals as goal
+use Rattle.figures.proofs.figure_at.Goals as goal
 
 pub returns : goal.returns
 unfolding figure_of
@@ -16,6 +16,6 @@ returns c =
       deadline = c.deadline.ensures.0 i;
       pd = held.pd a.k c.requires.1 i;
       md = held.md a.k c.requires.1 i;
-      ecb = (c.read.ensures ∙ first-half a.self.now.sets a.k (evicting a.board.now a.k) here) i;
-      data_ecb = (c.read-2.ensures ∙ second-half a.self.now.sets a.k (evicting a.board.now a.k) here) i;
+      ecb = (c.read.ensures ∙ first-half a.sets.now a.k (evicting a.board.now a.k) here) i;
+      data_ecb = (c.read-2.ensures ∙ second-half a.sets.now a.k (evicting a.board.now a.k) here) i;
     }

@@ -1,6 +1,6 @@
 -- After the first plane the numbers have moved but for the carries that go into the others, and of one plane none is left.
-use Rattle.std.proofs.Common.{List, ℕ, Bool, true, false, ◌≡◌, ◌+◌, ◌*◌, ◌/◌, ◌%◌, ◌≤◌, ◌<◌, ⊎_elim, eqb, ◌&&◌, refl, ap, subst, arith, length, get_or, bit_and}
-use Rattle.std.proofs.Math.ListN.{set}
+use Rattle.std.proofs.Common.{List, ℕ, Bool, true, false, ◌≡◌, ◌+◌, ◌*◌, ◌/◌, ◌%◌, ◌≤◌, ◌<◌, ⊎_elim, eqb, ◌&&◌, refl, ap, subst, ◌∙◌, arith, length, get_or, bit_and}
+use Rattle.std.proofs.Math.ListN.{set, length-set}
 use lib.Bits.{bit_xor}
 use borrow.Author.Tests.{ne_eqb}
 use Rattle.folds.specs.Folds.{only_if}
@@ -11,15 +11,15 @@ use Rattle.counts.specs.Planes.{count_of, largest}
 use Rattle.counts.specs.Turns.{MarkApplied}
 use Rattle.counts.proofs.Planes.{count-below}
 use Rattle.counts.proofs.Carries.{ripple-start, ripple-on, ripple-end}
-use Rattle.counts.proofs.Counts.apply_mark.Goals as goal
+use Rattle.counts.proofs.move_number.Goals as goal
 
 -- what the first plane leaves
-rippled : (c planes mark at : ℕ) (live : List ℕ) (carry turned : ℕ) → 1 ≤ planes → c ≤ 2 → mark < 1024 * c → length live ≡ 32 → at ≡ mark / 256
+rippled : (c planes mark at : ℕ) (live : List ℕ) (carry turned : ℕ) → 1 ≤ planes → mark < 1024 * c → 4 * c ≤ length live → at ≡ mark / 256
     → carry ≡ word_of (λ t. eqb t (mark / 4 % 64) && moves mark) 64 → turned ≡ word_of (λ t. falls mark) 64
     → Rippled c planes mark at live 1 (bit_and carry (bit_xor (get_or live at 0) turned)) (set live at (bit_xor (get_or live at 0) carry))
-rippled c planes mark at live carry turned some pair inside size e is turns =
+rippled c planes mark at live carry turned some inside room e is turns =
     let near : at < 4 * c = omega (arith, e, inside) in
-    let there : at < length live = omega (arith, near) in
+    let there : at < length live = omega (arith, near, room) in
     let place : 4 * (0 * c) + at ≡ at = omega arith in
     subst
     (λ (p : ℕ). Rippled c planes mark at live 1 (bit_and carry (bit_xor (get_or live p 0) turned)) (set live p (bit_xor (get_or live p 0) carry))) place
@@ -42,29 +42,27 @@ none-applied c planes mark old new none room some s h =
       idle (eqb (mark / 4) s) _ (ne_eqb (mark % 4) 2 (λ e. absurd (omega (arith, some e, empty old (mark / 4))))),
     )
 
-pub returns-then-self-le1 : goal.returns-then-self-le1
-returns-then-self-le1 c =
-    let s = c.args.self.now in
-    let at = c.args.mark / 256 in
-    let live : List ℕ = set s.words at (bit_xor (get_or s.words at 0) c.carry_of-carry.result) in (
+pub returns-then-planes-le1 : goal.returns-then-planes-le1
+returns-then-planes-le1 c =
+    let a = c.args in
+    let at = a.mark / 256 in
+    let live : List ℕ = set a.live.now at (bit_xor (get_or a.live.now at 0) c.carry_of-carry.result) in (
       ⊎_elim
-          (λ some. ripple-end s.caches s.planes c.args.mark at s.words live 1 _ (omega (arith, some, c.if-self-le1.true)) c.requires.1 c.requires.2
-          (rippled s.caches s.planes c.args.mark at s.words c.carry_of-carry.result (word_of (λ t. falls c.args.mark) 64) some s.pair c.requires.0 s.size refl
+          (λ some. ripple-end a.caches a.planes a.mark at a.live.now live 1 _ (omega (arith, some, c.if-planes-le1.true)) c.requires.5 c.requires.6
+          (rippled a.caches a.planes a.mark at a.live.now c.carry_of-carry.result (word_of (λ t. falls a.mark) 64) some c.requires.0 c.requires.1 refl
           c.carry_of-carry.ensures refl))
-          (λ none. none-applied s.caches s.planes c.args.mark s.words live (omega (arith, none)) c.requires.1 c.requires.2)
-          (le-or-lt 1 s.planes),
-      refl,
-      refl,
+          (λ none. none-applied a.caches a.planes a.mark a.live.now live (omega (arith, none)) c.requires.5 c.requires.6)
+          (le-or-lt 1 a.planes),
+      length-set a.live.now at _,
     )
 
 pub returns : goal.returns
 returns c =
-    let s = c.args.self.now in
-    let at = c.args.mark / 256 in
+    let a = c.args in
+    let at = a.mark / 256 in
     let carry = c.carry_of-carry.result in (
-      c.carry_on.ensures.0 s.words c.requires.1 c.requires.2
-          (rippled s.caches s.planes c.args.mark at s.words carry c.all_if-turned.result (omega arith) s.pair c.requires.0 s.size refl
+      c.carry_on.ensures.0 a.live.now c.requires.5 c.requires.6
+          (rippled a.caches a.planes a.mark at a.live.now carry c.all_if-turned.result (omega arith) c.requires.0 c.requires.1 refl
           c.carry_of-carry.ensures c.all_if-turned.ensures),
-      c.carry_on.ensures.1,
-      c.carry_on.ensures.2,
+      c.carry_on.ensures.1 ∙ length-set a.live.now at _,
     )
