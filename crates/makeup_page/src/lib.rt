@@ -10,7 +10,7 @@ ghost use Rattle.makeup_page.specs.MakeUpPage.{board_made_up, make_up_page};
 
 use board::{MOST_SCRATCH, MOST_TASKS};
 use input::argument::number_in;
-use page::boards::{BoardPage, InputPage, of_input, run_with};
+use page::boards::{BoardPage, InputPage, of_input, run_input_page};
 use parts_page::made_up_page;
 use std::io::{Error, Read, Write};
 use text::{Page, put_page};
@@ -51,7 +51,7 @@ impl InputPage<MOST> for MadeUp<'_> {
 pub fn run<R: Read, W: Write>(argument: &[u8], from: &mut R, to: &mut W) -> Result<bool, Error>
     ensures { IfOk result (Answered (make_up_page argument.now) (R.remaining from.old) (R.remaining from.new) (W.contents to.old) (W.contents to.new)) }
 {
-    run_with(&MadeUp { argument }, from, to)
+    run_input_page(&MadeUp { argument }, from, to)
 }
 
 // Puts the page of the argument and the input at the start of out, and answers its length. The rest of out is as it was.

@@ -8,7 +8,7 @@ use board::MOST_WORDS;
 use input::reading::read_full;
 use input::{decode, refusal};
 use std::io::{Error, Read, Write};
-use text::Page;
+use text::{Page, put_page};
 
 // What makes a page of at most N bytes of any board.
 pub trait BoardPage<const N: usize> {
@@ -29,9 +29,43 @@ pub trait InputPage<const N: usize>: BoardPage<N> {
         ensures fits { result ≤ N };
 }
 
+// What makes a page of any board, as what puts the page of any input: by `of_input`. Its pages have room for the line of a refusal.
+#[derive(Drop)]
+struct WholeInput<'a, const N: usize, P> {
+    pages: &'a P,
+    ghost room: { (46 ≤ N) × (N ≤ 4096) },
+}
+
+impl<const N: usize, P: BoardPage<N>> BoardPage<N> for WholeInput<'_, N, P> {
+    ghost shown = { λ whole b. P.shown whole.pages.now b };
+
+    fn of_board(&self, board: &[u32]) -> Page<N> {
+        self.pages.of_board(board)
+    }
+}
+
+impl<const N: usize, P: BoardPage<N>> InputPage<N> for WholeInput<'_, N, P> {
+    #[tactic(auto, using(text::proofs::Buffer::started))]
+    fn page_of(&self, bytes: &[u8], out: &mut [u8; N]) -> usize {
+        put_page(out, &of_input(self, bytes))
+    }
+}
+
 // Reads the input until its end, a failed read or 65,537 bytes, and writes its page, which has room for the line of a refusal. Answers whether no read failed; a
 // failed write is the error.
-pub fn run_with<const N: usize, P: InputPage<N>, R: Read, W: Write>(
+pub fn run_with<const N: usize, P: BoardPage<N>, R: Read, W: Write>(
+    pages: &P,
+    from: &mut R,
+    to: &mut W,
+) -> Result<bool, Error>
+    requires { (46 ≤ N) × (N ≤ 4096) }
+    ensures { IfOk result (Answered (input_page (P.shown pages.now)) (R.remaining from.old) (R.remaining from.new) (W.contents to.old) (W.contents to.new)) }
+{
+    run_input_page(&WholeInput { pages }, from, to)
+}
+
+// The same, by the page's own `page_of`.
+pub fn run_input_page<const N: usize, P: InputPage<N>, R: Read, W: Write>(
     pages: &P,
     from: &mut R,
     to: &mut W,

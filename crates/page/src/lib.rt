@@ -2,6 +2,8 @@
 #![tactic(auto)]
 
 pub mod boards;
+#[cfg(test)]
+mod tests;
 
 ghost use Rattle.std.specs.Prelude.{◌≡◌, ◌≤◌, length, take, drop, IfOk};
 ghost use Rattle.io.specs.Counts.{IsPrefixLen};
@@ -10,7 +12,7 @@ ghost use Rattle.page.specs.Page.{board_page, page_of, Answered};
 
 use answer_page::answer_page;
 use board::{MOST_SCRATCH, MOST_TASKS};
-use boards::{BoardPage, InputPage, of_input, run_with};
+use boards::{BoardPage, InputPage, of_input, run_input_page};
 use std::io::{Error, Read, Write};
 use text::{Page, put_page};
 
@@ -45,7 +47,7 @@ impl InputPage<MOST> for Times {
 pub fn run<R: Read, W: Write>(from: &mut R, to: &mut W) -> Result<bool, Error>
     ensures { IfOk result (Answered page_of (R.remaining from.old) (R.remaining from.new) (W.contents to.old) (W.contents to.new)) }
 {
-    run_with(&Times, from, to)
+    run_input_page(&Times, from, to)
 }
 
 // Puts the page of the input at the start of out, and answers its length. The rest of out is as it was.

@@ -2,7 +2,7 @@
 use Rattle.std.proofs.Common.{◌<◌, rules, arith, length, subst, take}
 use Rattle.std.specs.Io.KnownBytes.{Appends}
 use Rattle.page.proofs.Pages.{input_page-whole}
-use Rattle.page.proofs.boards.run_with.Goals as goal
+use Rattle.page.proofs.boards.run_input_page.Goals as goal
 
 pub shared_whole_as_front-write_all : goal.shared_whole_as_front-write_all
 shared_whole_as_front-write_all g c =
